@@ -1,0 +1,4 @@
+pub mod Points
+pub mod Refusals
+pub mod Stops
+pub mod Ranges
