@@ -13,5 +13,5 @@ pub use limits::Limits;
 pub use point::{Addr, Block, Point};
 pub use refusal::Refusal;
 pub use sequence::{Bytes, Ids, Sequence, Texts};
-pub use stop::Stop;
+pub use stop::{Line, Stop};
 pub use text::Text;

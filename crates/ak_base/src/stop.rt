@@ -1,9 +1,11 @@
 //! What a command stops by.
-ghost use Rattle.std.specs.Prelude.{◌≡◌, ◌++◌, OnOk};
+ghost use Rattle.std.specs.Prelude.{◌≡◌, ◌+◌, ◌<◌, ◌≤◌, ◌++◌, ◌∷◌, [], length, codes};
+ghost use Rattle.std.specs.Fmt.{decimal};
+ghost use Rattle.arrayvec.specs.ArrayString.{array_string_len};
 ghost use Rattle.ak_base.specs.Stops.{status_of, stop_text};
 
-use crate::sequence::Bytes;
-use std::alloc::{AllocError, Global};
+use arrayvec::ArrayString;
+use itoa::Buffer;
 
 /// Why a command ends otherwise than done.
 #[derive(Clone, Copy, Debug, PartialEq, Eq, Drop)]
@@ -53,29 +55,56 @@ impl Stop {
         }
     }
 
-    /// Appends the line that the console is told, without its end. After an `Err` a part of it may stand there.
-    pub fn write(&self, alloc: Global, into: &mut Bytes) -> Result<(), AllocError>
-        ensures { OnOk result (into.new ≡ into.old ++ stop_text self.now) }
+    /// The line that the console is told, with its end. It takes no memory.
+    pub fn line(&self) -> Line
+        ensures { result.bytes ≡ stop_text self.now ++ 10 ∷ [] }
     {
         match self {
-            Stop::Usage => into.extend(alloc, b"usage: akl [create|run|serve|soak DIR [options]]"),
-            Stop::Damaged { file, block } => {
-                let file = *file as u64;
-                into.extend_twice_counted(
-                    alloc,
-                    b"akl: damaged file ",
-                    file,
-                    b" block ",
-                    *block as u64,
-                )
-            }
-            Stop::Disk => into.extend(alloc, b"akl: disk failed"),
-            Stop::Port => into.extend(alloc, b"akl: port failed"),
-            Stop::Memory => into.extend(alloc, b"akl: out of memory"),
-            Stop::Budget => into.extend(alloc, b"akl: turn budget spent"),
-            Stop::Worn { .. } => into.extend(alloc, b"akl: store worn"),
-            Stop::NoStore => into.extend(alloc, b"akl: no store"),
-            Stop::Exists => into.extend(alloc, b"akl: store exists"),
+            Stop::Usage => line_of("usage: akl [create|run|serve|soak DIR [options]]"),
+            Stop::Damaged { file, block } => damaged_line(*file, *block),
+            Stop::Disk => line_of("akl: disk failed"),
+            Stop::Port => line_of("akl: port failed"),
+            Stop::Memory => line_of("akl: out of memory"),
+            Stop::Budget => line_of("akl: turn budget spent"),
+            Stop::Worn { .. } => line_of("akl: store worn"),
+            Stop::NoStore => line_of("akl: no store"),
+            Stop::Exists => line_of("akl: store exists"),
         }
     }
+}
+
+/// A line of the console.
+pub type Line = ArrayString<80>;
+
+// Appends a text for which there is room.
+fn append(line: &mut Line, text: &str)
+    requires { array_string_len line.old + length text.now ≤ 80 }
+    ensures bytes { line.new.bytes ≡ line.old.bytes ++ text.now }
+    ensures len { array_string_len line.new ≡ array_string_len line.old + length text.now }
+{
+    line.try_push_str(text).unwrap();
+}
+
+// The text as a line.
+fn line_of(text: &str) -> Line
+    requires { length text.now < 80 }
+    ensures { result.bytes ≡ text.now ++ 10 ∷ [] }
+{
+    let mut line = Line::new();
+    append(&mut line, text);
+    append(&mut line, "\n");
+    line
+}
+
+fn damaged_line(file: u32, block: u32) -> Line
+    ensures { result.bytes ≡ codes "akl: damaged file " ++ decimal file ++ codes " block " ++ decimal block ++ 10 ∷ [] }
+{
+    let mut digits = Buffer::new();
+    let mut line = Line::new();
+    append(&mut line, "akl: damaged file ");
+    append(&mut line, digits.format(file));
+    append(&mut line, " block ");
+    append(&mut line, digits.format(block));
+    append(&mut line, "\n");
+    line
 }
