@@ -1,0 +1,5 @@
+//! Tests that cross crates: streams told to the top call over ports in memory.
+#![tactic(auto)]
+
+#[cfg(test)]
+mod tests;

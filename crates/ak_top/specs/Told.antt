@@ -1,0 +1,97 @@
+-- What stands told at a moment of a run, and what each status says of it.
+use Rattle.std.specs.Prelude.{ℕ, ◌≡◌, ◌⊎◌, ◌-◌, ◌^◌, ◌≤◌, ◌++◌, ◌∷◌, [], List, length, take}
+use Rattle.std.specs.List.{AllByRecursion}
+use Rattle.ak_base.specs.declared.stop.Stop.{Stop}
+use Rattle.ak_base.specs.Stops.{stop_text, status_of}
+use Rattle.ak_host.specs.Causes.{Rose}
+use Rattle.ak_host.specs.Marks.{Mark, Taken, piece, ended, idle, done, Telling, told_to}
+use Rattle.ak_top.specs.Run.{AreAnswers}
+
+-- the list begins with these
+pub record Begins (front list : List ℕ) : Type 0 where
+  pub rest : List ℕ
+  pub is : list ≡ front ++ rest
+
+-- the turns and tellings since a mark
+pub record Since (start mark : Mark) : Type 0 where
+  pub turns : List Taken
+  pub tellings : List Telling
+  pub turns_are : mark.turns ≡ start.turns ++ turns
+  pub tellings_are : mark.tellings ≡ start.tellings ++ tellings
+
+-- what a port was told stands between these answers
+pub record IsBetween (least most told : List ℕ) : Type 0 where
+  pub at_least : Begins least told
+  pub at_most : Begins told most
+
+-- Where k turns were taken since, what each session's port was told begins with the answers to the first k - 1 turns,
+-- and the answers to all k begin with it.
+pub record IsAnswered (start mark : Mark) : Type 0 where
+  pub since : Since start mark
+  pub ports : (port : ℕ) → 1 ≤ port → (least : List ℕ) × (most : List ℕ)
+      × AreAnswers (take (length since.turns - 1) since.turns) port least × AreAnswers since.turns port most
+      × IsBetween least most (told_to port since.tellings)
+
+-- each turn since is answered in full
+pub record IsComplete (start mark : Mark) : Type 0 where
+  pub since : Since start mark
+  pub ports : (port : ℕ) → 1 ≤ port → AreAnswers since.turns port (told_to port since.tellings)
+
+abbrev pub IsDone : Taken → Type 0
+IsDone (piece port bytes) = ⊥
+IsDone (ended port) = ⊥
+IsDone idle = ⊥
+IsDone done = Unit {0}
+
+abbrev pub NoneDone : List Taken → Type 0
+NoneDone turns = AllByRecursion (λ turn. ¬ (IsDone turn)) turns
+
+-- Each turn since is answered in full, and the last of them, and no other, is `Done`.
+pub record EndsDone (start mark : Mark) : Type 0 where
+  pub complete : IsComplete start mark
+  pub others : List Taken
+  pub turns_are : complete.since.turns ≡ others ++ done ∷ []
+  pub none_done : NoneDone others
+
+-- all 2 ^ 32 turns were taken since, and none is `Done`
+pub record AreSpent (start mark : Mark) : Type 0 where
+  pub since : Since start mark
+  pub count : length since.turns ≡ 2 ^ 32
+  pub none_done : NoneDone since.turns
+
+-- the console was told nothing so far
+pub record IsQuiet (start mark : Mark) : Type 0 where
+  pub answered : IsAnswered start mark
+  pub console : told_to 0 answered.since.tellings ≡ []
+
+-- the line of the console for a stop
+abbrev pub line_of : Stop → List ℕ
+line_of stop = stop_text stop ++ 10 ∷ []
+
+-- The console was told nothing, or the line of the status.
+abbrev pub OnConsole : ℕ → List ℕ → Type 0
+OnConsole status told = (told ≡ []) ⊎ ((stop : Stop) × (status_of stop ≡ status) × (told ≡ line_of stop))
+
+-- at a moment of a call that ends with this status
+pub record IsTold (status : ℕ) (start mark : Mark) : Type 0 where
+  pub answered : IsAnswered start mark
+  pub console : OnConsole status (told_to 0 answered.since.tellings)
+
+-- The console was told the line of the status. It is missing only for status 0, or where the count of faults rose.
+abbrev pub TellsLine : ℕ → ℕ → ℕ → List ℕ → Type 0
+TellsLine status before now told = ((status ≡ 0) × (told ≡ []))
+    ⊎ ((stop : Stop) × (status_of stop ≡ status) × ((told ≡ line_of stop) ⊎ ((told ≡ []) × Rose before now)))
+
+-- as the call ends
+pub record HasConsole (status before now : ℕ) (start mark : Mark) : Type 0 where
+  pub since : Since start mark
+  pub line : TellsLine status before now (told_to 0 since.tellings)
+
+-- the statuses that there are
+abbrev pub IsStatus : ℕ → Type 0
+IsStatus status = (status ≡ 0) ⊎ ((status ≡ 1) ⊎ ((status ≡ 4) ⊎ ((status ≡ 5) ⊎ (status ≡ 6))))
+
+-- With no words, where no call of the ports failed, the turn Done ends the call with status 0, unless memory ran out or
+-- Done isn't among the first 2 ^ 32 turns.
+abbrev pub IsFinished : ℕ → Mark → Mark → Type 0
+IsFinished status start mark = (status ≡ 0) ⊎ ((status ≡ 5) ⊎ AreSpent start mark)
