@@ -1,0 +1,4 @@
+pub mod Fields
+pub mod Uvar
+pub mod Zigzag
+pub mod Head
