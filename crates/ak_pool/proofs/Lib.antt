@@ -1,0 +1,4 @@
+pub mod Uses
+pub mod Kept
+pub mod Fresh
+pub mod Theirs

@@ -1,0 +1,4 @@
+pub mod Joins
+pub mod Merges
+pub mod Orders
+pub mod Parts

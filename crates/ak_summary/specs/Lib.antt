@@ -1,0 +1,4 @@
+pub mod Order
+pub mod Summaries
+pub mod Ones
+pub mod Bounds
