@@ -1,0 +1,5 @@
+pub mod Fitting
+pub mod Found
+pub mod Heads
+pub mod Newest
+pub mod Spelled

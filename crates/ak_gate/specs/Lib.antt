@@ -1,0 +1,5 @@
+pub mod Fits
+pub mod Opening
+pub mod Slots
+pub mod View
+pub mod Written

@@ -1,0 +1,6 @@
+use Rattle.std.proofs.Common.{◌≡◌, ◌≤◌, take}
+use Rattle.ak_memhost.specs.State.{writes_in}
+use Rattle.ak_memhost.proofs.host.telling.count_writes.Given as goal
+
+abbrev pub invariant-loop-call : goal.invariant-loop-call
+invariant-loop-call l = record { count_is : l.count ≡ writes_in (take l.call-index l.calls); few : l.count ≤ l.call-index }
