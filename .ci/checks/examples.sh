@@ -1,0 +1,31 @@
+#!/usr/bin/env bash
+# The examples of README.md and docs/protocol.md: what the program tells for them, and its statuses.
+set -u
+akl=crates/akl/out/akl
+if [ ! -x "$akl" ]; then
+  log=$(cd crates/akl && rt run 2>&1) || { printf '%s\n' "$log"; exit 1; }
+fi
+status=0
+# gives INPUT EXPECTED STATUS [WORD]...: both texts as printf writes them
+gives() {
+  local input=$1 expected=$2 wanted=$3
+  shift 3
+  local told got
+  told=$(printf -- "$input" | "$akl" "$@"; got=$?; printf '%s.' "$got")
+  if [ "$told" != "$(printf -- "$expected"; printf '%s.' "$wanted")" ]; then
+    printf 'akl told otherwise for: %s\n%s\n' "$input" "$told"
+    status=1
+  fi
+}
+query='+!query\r\n$16\r\n{"select":"cpu"}\r\n'
+gives '+cpu host=a\r\n:100\r\n:5\r\n'"$query" '$17\r\ncpu host=a,100,5\n\r\n' 0
+gives '+cpu host=a\r\n:100\r\n:5\r\n+cpu host=b\r\n:50\r\n:-7\r\n+mem\r\n:1\r\n:1\r\n+cpu host=a\r\n:100\r\n:6\r\n'"$query" \
+  '$51\r\ncpu host=a,100,5\ncpu host=a,100,6\ncpu host=b,50,-7\n\r\n' 0
+gives "$query" '$0\r\n\r\n' 0
+gives '+cpu\r\n:1' '-ERR 16 input ended inside a message\r\n' 0
+gives '+cpu\r\n:100\r\n:5\r\n+cpu\r\n:99\r\n:6\r\n+cpu\r\n:100\r\n:7\r\n'"$query" \
+  '-ERR 25 late, last 100\r\n$20\r\ncpu,100,5\ncpu,100,7\n\r\n' 0
+gives '+cpu\r\n:1\r\n:1\r\n?'"$query" '-ERR 29 not built\r\n' 0
+gives '' '' 0
+gives '' 'usage: akl [create|run|serve|soak DIR [options]]\n' 1 frob
+exit $status
