@@ -1,0 +1,4 @@
+pub mod Heads
+pub mod Lengths
+pub mod Readers
+pub mod Rows

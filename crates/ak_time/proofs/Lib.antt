@@ -1,0 +1,6 @@
+pub mod Moments
+pub mod Numerals
+pub mod Readings
+pub mod Splits
+pub mod StepFacts
+pub mod Shapes
