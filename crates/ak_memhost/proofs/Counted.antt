@@ -3,8 +3,8 @@ use Rattle.std.proofs.Common.{◌≡◌, inl, inr, ℕ, zero, suc, ◌+◌, ◌*
 use Rattle.std.proofs.lemmas.Bool.{cases_Bool}
 use Rattle.std.proofs.lemmas.List.{take_more, take_all}
 use Rattle.ak_host.specs.Marks.{Telling, told_to}
-use Rattle.ak_host.specs.declared.mem_turn.MemTurn.{MemTurn}
-use Rattle.ak_host.proofs.HeardBy.{told_to-push}
+use Rattle.ak_memhost.specs.declared.mem_turn.MemTurn.{MemTurn}
+use Rattle.ak_memhost.proofs.HeardBy.{told_to-push}
 use Rattle.ak_memhost.specs.Record.{Stage, step, after}
 use Rattle.ak_memhost.specs.State.{within, instant_at, told_by, told_in}
 use Rattle.ak_memhost.specs.declared.call.Call.{Call}

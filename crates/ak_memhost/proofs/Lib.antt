@@ -1,4 +1,5 @@
 pub mod Counted
+pub mod HeardBy
 pub mod Images
 pub mod Outcomes
 pub mod Planted

@@ -2,8 +2,8 @@
 use Rattle.std.proofs.Common.{◌≡◌, ◌↔◌, inl, inr, ℕ, zero, suc, true, List, [], ◌∷◌, slice_set, refl, sym, ap, subst, arith}
 use Rattle.ak_host.specs.Files.{Files, with_block}
 use Rattle.ak_host.specs.Moments.{LeavesNow}
-use Rattle.ak_host.specs.declared.heard.PortBytes.{PortBytes}
-use Rattle.ak_host.specs.declared.mem_turn.MemTurn.{MemTurn}
+use Rattle.ak_memhost.specs.declared.heard.PortBytes.{PortBytes}
+use Rattle.ak_memhost.specs.declared.mem_turn.MemTurn.{MemTurn}
 use Rattle.ak_memhost.specs.declared.drive.Cell.{Cell}
 use Rattle.ak_memhost.specs.declared.call.Call.{Call}
 use Rattle.ak_memhost.specs.Drive.{Drive, IsCellImage, IsFileImage, IsImage, with_cell}

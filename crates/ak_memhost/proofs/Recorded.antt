@@ -11,16 +11,16 @@ use Rattle.ak_memhost.specs.Drive.{Drive, IsImage, contents, cells_at}
 use Rattle.std.proofs.lemmas.List.Elements.{All-push}
 use Rattle.ak_memhost.specs.Laws.{instant_now, left_now, zero_is_block}
 use Rattle.ak_memhost.proofs.Images.{torn_image, settled_image, settled_stable, made_image, made_stable}
-use Rattle.ak_host.specs.Heard.{heard_by}
+use Rattle.ak_memhost.specs.Heard.{heard_by}
 use Rattle.ak_host.specs.Marks.{told_to}
-use Rattle.ak_host.specs.Turns.{turn_or_done}
-use Rattle.ak_host.specs.declared.heard.PortBytes.{PortBytes}
-use Rattle.ak_host.proofs.HeardBy.{told_to-push}
+use Rattle.ak_memhost.specs.Turns.{turn_or_done}
+use Rattle.ak_memhost.specs.declared.heard.PortBytes.{PortBytes}
+use Rattle.ak_memhost.proofs.HeardBy.{told_to-push}
 use Rattle.ak_memhost.specs.Record.{Stage, start, step, after, Current}
 use Rattle.ak_memhost.specs.State.{Instant, at_rest, IsLeft, moments_of, reads_in, writes_in, FailsAt, WriteBlocks, block_of, within, instant_at, state_of}
 use Rattle.ak_memhost.specs.declared.call.Call.{Call}
 use Rattle.ak_memhost.specs.declared.call.Call.TheVariants.{Make, Read, Write, Sync, Turn, Reply, Failure}
-use Rattle.ak_host.specs.declared.mem_turn.MemTurn.{MemTurn}
+use Rattle.ak_memhost.specs.declared.mem_turn.MemTurn.{MemTurn}
 
 slice_get_past : {A : Type 0} (items : List A) (at : ℕ) → length items ≤ at → slice_get items at ≡ None
 slice_get_past [] at past = refl

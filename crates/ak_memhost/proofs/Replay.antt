@@ -7,7 +7,7 @@ use Rattle.ak_memhost.specs.State.{IsLeft, within, instant_at}
 use Rattle.ak_memhost.specs.Torn.{drive_within, drive_at}
 use Rattle.ak_memhost.specs.declared.call.Call.{Call}
 use Rattle.ak_memhost.specs.declared.call.Call.TheVariants.{Make, Read, Write, Sync, Turn, Reply, Failure}
-use Rattle.ak_host.specs.declared.mem_turn.MemTurn.{MemTurn}
+use Rattle.ak_memhost.specs.declared.mem_turn.MemTurn.{MemTurn}
 
 pub drive_after_all-push : (drive : Drive) (calls : List Call) (call : Call) → drive_after_all drive (calls ++ call ∷ []) ≡ drive_after (drive_after_all drive calls) call
 drive_after_all-push drive [] call = refl

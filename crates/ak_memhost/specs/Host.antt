@@ -3,9 +3,9 @@ use Rattle.std.specs.Prelude.{◌≡◌, ℕ, List, [], length, slice_get}
 use Rattle.ak_host.specs.Files.{Files}
 use Rattle.ak_host.specs.Marks.{Taken}
 use Rattle.ak_host.specs.Moments.{HostState}
-use Rattle.ak_host.specs.Numbers.{Numbers}
-use Rattle.ak_host.specs.Turns.{turn_or_done}
-use Rattle.ak_host.specs.declared.mem_turn.MemTurn.{MemTurn}
+use Rattle.ak_memhost.specs.Numbers.{Numbers}
+use Rattle.ak_memhost.specs.Turns.{turn_or_done}
+use Rattle.ak_memhost.specs.declared.mem_turn.MemTurn.{MemTurn}
 use Rattle.ak_memhost.specs.Drive.{Drive, contents}
 use Rattle.ak_memhost.specs.Record.{start, after}
 use Rattle.ak_memhost.specs.State.{state_of}

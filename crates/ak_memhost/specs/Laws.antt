@@ -8,7 +8,7 @@ use Rattle.ak_host.specs.Moments.{LeavesNow}
 use Rattle.ak_memhost.specs.declared.drive.Cell.{Cell}
 use Rattle.ak_memhost.specs.declared.call.Call.{Call}
 use Rattle.ak_memhost.specs.declared.call.Call.TheVariants.{Make, Read, Write, Sync, Turn, Reply, Failure}
-use Rattle.ak_host.specs.declared.mem_turn.MemTurn.{MemTurn}
+use Rattle.ak_memhost.specs.declared.mem_turn.MemTurn.{MemTurn}
 use Rattle.ak_memhost.specs.Drive.{Drive, IsCellImage, IsFileImage, IsImage, zero_cell, settle_cell, file_contents, contents, sizes, with_cell, with_settled}
 use Rattle.ak_memhost.specs.Record.{Stage, start, step, after, drive_after}
 use Rattle.ak_memhost.specs.State.{at_rest, IsLeft, moments_of, block_of, WriteBlocks, instant_at, state_of}

@@ -1,7 +1,10 @@
 pub mod Drive
 pub mod Fresh
+pub mod Heard
 pub mod Host
 pub mod Laws
+pub mod Numbers
 pub mod Record
 pub mod State
 pub mod Torn
+pub mod Turns

@@ -1,11 +1,11 @@
 -- The record of a host in memory: from where it began, and call by call.
 use Rattle.std.specs.Prelude.{◌≡◌, min, ℕ, false, List, [], ◌∷◌, length, replicate, slice_get}
 use Rattle.ak_host.specs.Files.{with_item}
-use Rattle.ak_host.specs.Heard.{heard_by}
+use Rattle.ak_memhost.specs.Heard.{heard_by}
 use Rattle.ak_host.specs.Marks.{Mark, after_turn, after_reply, told_to}
-use Rattle.ak_host.specs.Turns.{turn_or_done}
-use Rattle.ak_host.specs.declared.heard.PortBytes.{PortBytes}
-use Rattle.ak_host.specs.declared.mem_turn.MemTurn.{MemTurn}
+use Rattle.ak_memhost.specs.Turns.{turn_or_done}
+use Rattle.ak_memhost.specs.declared.heard.PortBytes.{PortBytes}
+use Rattle.ak_memhost.specs.declared.mem_turn.MemTurn.{MemTurn}
 use Rattle.ak_memhost.specs.Drive.{Drive, zero_cell, with_cell, with_settled}
 use Rattle.ak_memhost.specs.declared.call.Call.{Call}
 use Rattle.ak_memhost.specs.declared.call.Call.TheVariants.{Make, Read, Write, Sync, Turn, Reply, Failure}

@@ -8,7 +8,7 @@ use Rattle.ak_memhost.specs.Drive.{Drive, IsImage, contents, sizes}
 use Rattle.ak_memhost.specs.Record.{Stage, step, after}
 use Rattle.ak_memhost.specs.declared.call.Call.{Call}
 use Rattle.ak_memhost.specs.declared.call.Call.TheVariants.{Make, Read, Write, Sync, Turn, Reply, Failure}
-use Rattle.ak_host.specs.declared.mem_turn.MemTurn.{MemTurn}
+use Rattle.ak_memhost.specs.declared.mem_turn.MemTurn.{MemTurn}
 
 -- a moment: the mark, and the drives of which a stop leaves an image
 pub record Instant : Type 0 where

@@ -2,7 +2,7 @@
 ghost use Rattle.std.specs.Prelude.{◌↔◌, IsTrue, IsErr, Contains, ◌≡◌, ◌⊎◌, ℕ, ◌<◌, ◌≤◌, ◌+◌, ◌-◌, ◌^◌, ◌++◌, ◌∷◌, [], min, length, replicate, slice_set, slice_index_or, All, IfOk, OnOk, OnErr};
 ghost use Rattle.ak_host.specs.Causes.{HasCause, Rose};
 ghost use Rattle.ak_host.specs.Files.{AreBlocks, IsBlock, with_item};
-ghost use Rattle.ak_host.specs.Turns.{IsMemTurn};
+ghost use Rattle.ak_memhost.specs.Turns.{IsMemTurn};
 ghost use Rattle.ak_memhost.specs.Drive.{Drive, AllFit, zero_cell, contents, sizes, cells_at, with_cell, with_settled};
 ghost use Rattle.ak_memhost.specs.Record.{start, after, Current, drive_after, drive_after_all};
 ghost use Rattle.ak_memhost.specs.State.{state_of, FailsAt, WriteBlocks, block_of, reads_in, writes_in};
@@ -13,9 +13,9 @@ mod telling;
 
 use crate::call::copy_bytes;
 use crate::drive::copy_files;
-use crate::{Call, Cell, MemFile, SavedBlock};
+use crate::{Call, Cell, Heard, MemFile, MemTurn, SavedBlock};
 use ak_base::Bytes;
-use ak_host::{Block, Disk, Failed, Heard, Host, MemTurn, Outside, Ports, Turn};
+use ak_host::{Block, Disk, Failed, Host, Outside, Ports, Turn};
 use std::alloc::{AllocError, Global};
 use thiserror::Error;
 
@@ -274,7 +274,7 @@ impl Disk for MemHost {
     ghost use Rattle.ak_host.specs.Calls.{Follows, CountsOne, SameDisk};
     ghost use Rattle.ak_host.specs.Files.{block_at, with_block, zero_blocks, MayBeTorn, Made};
     ghost use Rattle.ak_host.specs.Moments.{LeavesNow, IsStable, DiskPasses};
-    ghost use Rattle.ak_host.specs.Numbers.{IsNumbered};
+    ghost use Rattle.ak_memhost.specs.Numbers.{IsNumbered};
     ghost use Rattle.std.specs.Prelude.{slice_index};
     ghost use Rattle.ak_memhost.specs.Host.{host_state, turns_of, numbers_of};
     ghost use Rattle.ak_memhost.specs.Laws.{leaves_contents, leaves_blocks, sizes-contents};
@@ -436,7 +436,7 @@ impl Ports for MemHost {
     ghost use Rattle.ak_host.specs.Calls.{SameDisk};
     ghost use Rattle.ak_host.specs.Marks.{taken, IsTurn, after_turn, after_reply};
     ghost use Rattle.ak_host.specs.Moments.{PortPasses, mark_now};
-    ghost use Rattle.ak_host.specs.Numbers.{IsNumbered};
+    ghost use Rattle.ak_memhost.specs.Numbers.{IsNumbered};
     ghost use Rattle.ak_memhost.specs.Host.{host_state, next_turn, turns_of, numbers_of};
 
     fn turn(&mut self, into: &mut Block) -> Result<Turn, Failed>

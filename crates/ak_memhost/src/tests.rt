@@ -1,7 +1,9 @@
-ghost use Rattle.std.specs.Prelude.{◌≡◌, ◌<◌, true, length, slice_index};
+ghost use Rattle.std.specs.Prelude.{◌≡◌, ◌<◌, true, length, slice_index, IfOk, codes};
 
 use super::*;
+use ak_base::Bytes;
 use ak_host::{Block, Disk, Failed, Ports, Turn};
+use std::alloc::{AllocError, Global};
 use std::test::Fail;
 
 // Tests ask first whether a block is there, so that no fact of the sizes has to last from call to call.
@@ -69,6 +71,36 @@ fn numbered_calls_fail(rt: HostRuntime) -> Result<(), Fail> {
     assert_eq!(rt; host.reply(3, b"no"), Err(Failed));
     assert_eq!(rt; host.turn(&mut block), Ok(Turn::Done));
     assert_eq!(rt; (host.reads(), host.writes(), host.refused()), (1, 1, 0));
+    Ok(())
+}
+
+fn piece(alloc: Global) -> Result<Bytes, AllocError>
+    ensures { IfOk result (λ bytes. bytes ≡ codes "hi") }
+{
+    let mut bytes = Bytes::new(alloc);
+    bytes.extend(alloc, b"hi")?;
+    Ok(bytes)
+}
+
+#[test]
+fn each_kind_of_turn_is_given(rt: HostRuntime) -> Result<(), Fail> {
+    let alloc = rt.alloc();
+    let bytes = piece(alloc)?;
+    let turns = [
+        MemTurn::Bytes { port: 1, bytes },
+        MemTurn::End { port: 3 },
+        MemTurn::Idle,
+        MemTurn::Done,
+    ];
+    let mut host = MemHost::new(alloc, &turns, &[])?;
+    let mut block = [0; 4096];
+    assert_eq!(rt; host.turn(&mut block), Ok(Turn::Bytes { port: 1, n: 2 }));
+    assert_eq!(rt; (block[0], block[1]), (b'h', b'i'));
+    assert_eq!(rt; host.turn(&mut block), Ok(Turn::End { port: 3 }));
+    assert_eq!(rt; host.turn(&mut block), Ok(Turn::Idle));
+    assert_eq!(rt; host.turn(&mut block), Ok(Turn::Done));
+    assert_eq!(rt; host.turn(&mut block), Ok(Turn::Done));
+    assert_eq!(rt; host.refused(), 0);
     Ok(())
 }
 

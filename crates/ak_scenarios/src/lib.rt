@@ -1,4 +1,4 @@
-//! Tests that cross crates: streams told to the top call over ports in memory, and gates opened over a host in memory.
+//! Tests that cross crates, over a host in memory: streams told to the top call, and gates opened.
 #![tactic(auto)]
 
 #[cfg(test)]

@@ -1,8 +1,8 @@
 ghost use Rattle.std.specs.Prelude.{◌≡◌, ◌≤◌, All, IfOk, length};
-ghost use Rattle.ak_host.specs.Turns.{IsMemTurn};
+ghost use Rattle.ak_memhost.specs.Turns.{IsMemTurn};
 
 use ak_base::Bytes;
-use ak_host::{MemPorts, MemTurn};
+use ak_memhost::{MemHost, MemTurn};
 use ak_top::akl;
 use std::alloc::{AllocError, Global};
 use std::process::Abort;
@@ -63,13 +63,13 @@ fn call(
 ) -> Result<Ended, AllocError>
     requires { All IsMemTurn turns.now }
 {
-    let mut ports = MemPorts::new(alloc, turns, fails)?;
-    let status = akl(alloc, words, &mut ports);
+    let mut host = MemHost::new(alloc, turns, fails)?;
+    let status = akl(alloc, words, &mut host);
     Ok(Ended {
         status,
-        told: Vec::from_slice(alloc, ports.told(1))?,
-        console: Vec::from_slice(alloc, ports.told(0))?,
-        refused: ports.refused(),
+        told: Vec::from_slice(alloc, host.told(1))?,
+        console: Vec::from_slice(alloc, host.told(0))?,
+        refused: host.refused(),
     })
 }
 
@@ -179,14 +179,14 @@ fn other_ports_are_refused(rt: HostRuntime) -> Result<(), Fail> {
         piece(alloc, 2, b"y")?,
         MemTurn::End { port: 2 },
     ];
-    let mut ports = MemPorts::new(alloc, &turns, &[])?;
-    assert_eq!(rt; akl(alloc, &[], &mut ports), 0);
+    let mut host = MemHost::new(alloc, &turns, &[])?;
+    assert_eq!(rt; akl(alloc, &[], &mut host), 0);
     assert_eq!(rt;
-        ports.told(2),
+        host.told(2),
         b"-ERR 29 not built\r\n-ERR 29 not built\r\n".as_slice()
     );
-    assert_eq!(rt; ports.told(7), b"-ERR 29 not built\r\n".as_slice());
-    assert_eq!(rt; ports.told(1), b"".as_slice());
+    assert_eq!(rt; host.told(7), b"-ERR 29 not built\r\n".as_slice());
+    assert_eq!(rt; host.told(1), b"".as_slice());
     Ok(())
 }
 

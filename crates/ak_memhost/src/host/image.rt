@@ -9,8 +9,7 @@ ghost use Rattle.ak_memhost.specs.Torn.{torn, drive_within};
 
 use super::{ImageError, MemHost, replay, replay_all};
 use crate::drive::{copy_files, torn_files};
-use crate::{Call, MemFile, Tear};
-use ak_host::Heard;
+use crate::{Call, Heard, MemFile, Tear};
 use std::alloc::{AllocError, Global};
 
 // Makes a recorded call again, as far as a stop within it finds it made.

@@ -2,14 +2,14 @@
 ghost use Rattle.std.specs.Prelude.{◌≡◌, ◌↔◌, ◌<◌, [], All, IfOk, OnOk, OnErr, length, slice_index};
 ghost use Rattle.ak_host.specs.Files.{Files, with_block};
 ghost use Rattle.ak_host.specs.Moments.{LeavesNow};
-ghost use Rattle.ak_host.specs.Turns.{IsMemTurn};
+ghost use Rattle.ak_memhost.specs.Turns.{IsMemTurn};
 ghost use Rattle.ak_memhost.specs.Fresh.{IsFresh, IsPlanted, IsSameBut};
 ghost use Rattle.ak_memhost.specs.Host.{host_state, turns_of, numbers_of};
 
 use super::{MemHost, put_cell};
-use crate::Cell;
 use crate::drive::{block_of, copy_files};
-use ak_host::{Block, Heard, MemTurn};
+use crate::{Cell, Heard, MemTurn};
+use ak_host::Block;
 use std::alloc::{AllocError, Global};
 
 impl MemHost {

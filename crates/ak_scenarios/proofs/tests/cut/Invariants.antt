@@ -1,5 +1,5 @@
 use Rattle.std.proofs.Common.{length, All}
-use Rattle.ak_host.specs.Turns.{IsMemTurn}
+use Rattle.ak_memhost.specs.Turns.{IsMemTurn}
 use Rattle.ak_scenarios.proofs.tests.cut.Given as goal
 
 abbrev pub invariant-loop-rest : goal.invariant-loop-rest

@@ -1,6 +1,6 @@
 use Rattle.std.proofs.Common.{◌≡◌, ◌∙◌, List, All, length, arith, sym, subst, ap}
 use Rattle.ak_host.specs.Files.{AreBlocks, IsBlock}
-use Rattle.ak_host.specs.Turns.{IsMemTurn}
+use Rattle.ak_memhost.specs.Turns.{IsMemTurn}
 use Rattle.std.proofs.lemmas.List.Elements.{All-nil}
 use Rattle.ak_memhost.specs.State.{WriteBlocks, block_of}
 use Rattle.ak_memhost.specs.declared.call.Call.{Call}

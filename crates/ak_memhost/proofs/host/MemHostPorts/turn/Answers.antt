@@ -4,7 +4,7 @@ use Rattle.ak_host.specs.Moments.{mark_now}
 use Rattle.ak_memhost.specs.State.{state_of}
 use Rattle.ak_memhost.specs.Drive.{contents}
 use Rattle.ak_memhost.specs.Record.{Stage, Current, start}
-use Rattle.ak_host.specs.Turns.{turn_or_done}
+use Rattle.ak_memhost.specs.Turns.{turn_or_done}
 use Rattle.ak_memhost.specs.Laws.{zero_is_block}
 use Rattle.ak_memhost.specs.declared.call.Call.TheVariants.{Turn}
 use Rattle.ak_memhost.proofs.Recorded.{turn_current, turn_at_next, after_is, turn_passes, turn_mark, port_failure_passes, failure_mark, failure_is, failure_reads, failure_writes, failure_blocks, reads_is, writes_is}

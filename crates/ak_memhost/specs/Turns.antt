@@ -1,8 +1,8 @@
 -- Turns that a host in memory gives.
 use Rattle.std.specs.Prelude.{ℕ, ◌≤◌, length, Option, Some, None}
 use Rattle.ak_host.specs.Marks.{Taken, piece, ended, idle, done}
-use Rattle.ak_host.specs.declared.mem_turn.MemTurn.{MemTurn}
-use Rattle.ak_host.specs.declared.mem_turn.MemTurn.TheVariants.{Bytes, End, Idle, Done}
+use Rattle.ak_memhost.specs.declared.mem_turn.MemTurn.{MemTurn}
+use Rattle.ak_memhost.specs.declared.mem_turn.MemTurn.TheVariants.{Bytes, End, Idle, Done}
 
 -- a turn's port, and 1 where it has none
 abbrev pub port_of : MemTurn → ℕ

@@ -1,10 +1,11 @@
 //! Turns that a host in memory gives.
 ghost use Rattle.std.specs.Prelude.{◌≡◌, ◌+◌, ◌≤◌, All, IfOk, length, min, slice_get, take};
 ghost use Rattle.ak_host.specs.Marks.{taken, IsTurn};
-ghost use Rattle.ak_host.specs.Turns.{IsMemTurn, turn_or_done};
+ghost use Rattle.ak_memhost.specs.Turns.{IsMemTurn, turn_or_done};
 
-use crate::host::Turn;
+use crate::call::copy_bytes;
 use ak_base::{Block, Bytes};
+use ak_host::Turn;
 use std::alloc::{AllocError, Global};
 
 /// A turn that a host in memory gives.
@@ -68,15 +69,6 @@ impl MemTurn {
             None => Turn::Done,
         }
     }
-}
-
-/// A copy of bytes.
-pub(crate) fn copy_bytes(alloc: Global, bytes: &[u8]) -> Result<Bytes, AllocError>
-    ensures { IfOk result (λ copy. copy ≡ bytes.now) }
-{
-    let mut copy = Bytes::new(alloc);
-    copy.extend(alloc, bytes)?;
-    Ok(copy)
 }
 
 // Copies bytes to the front of a block.

@@ -1,8 +1,8 @@
 //! What ports were told, in a buffer for each.
 ghost use Rattle.std.specs.Prelude.{◌≡◌, ◌≢◌, ◌<◌, ◌≤◌, ◌++◌, [], ℕ, if◌then◌else◌, ◌==◌, OnOk, OnErr, MatchOption, length};
-ghost use Rattle.ak_host.specs.Heard.{heard_by, IsNotBefore, IsFirstAt};
+ghost use Rattle.ak_memhost.specs.Heard.{heard_by, IsNotBefore, IsFirstAt};
 
-use crate::mem_turn::copy_bytes;
+use crate::call::copy_bytes;
 use ak_base::Bytes;
 use std::alloc::{AllocError, Global};
 use std::marker::Model;
@@ -23,7 +23,7 @@ pub struct Heard {
 
 impl Model for Heard {
     ghost use Rattle.std.specs.Prelude.{List};
-    ghost use Rattle.ak_host.specs.declared.heard.PortBytes.{PortBytes};
+    ghost use Rattle.ak_memhost.specs.declared.heard.PortBytes.{PortBytes};
 
     ghost Value = { List PortBytes };
 

@@ -1,6 +1,6 @@
 -- What each port was told, in a list of ports with their bytes.
 use Rattle.std.specs.Prelude.{◌≡◌, ◌≢◌, ℕ, ◌<◌, List, [], ◌∷◌, length, slice_index_or, if◌then◌else◌, ◌==◌}
-use Rattle.ak_host.specs.declared.heard.PortBytes.{PortBytes}
+use Rattle.ak_memhost.specs.declared.heard.PortBytes.{PortBytes}
 
 -- the bytes of the first entry with this port, and none where there is no such entry
 abbrev pub heard_by : ℕ → List PortBytes → List ℕ

@@ -1,9 +1,9 @@
 use Rattle.std.proofs.Common.{◌∙◌, ◌++◌, ◌∷◌, [], ap, subst, slice_set, length, List, ℕ, if◌then◌else◌, ◌==◌}
-use Rattle.ak_host.specs.Heard.{heard_by, IsFirstAt, IsNotBefore}
-use Rattle.ak_host.specs.declared.heard.PortBytes.{PortBytes}
-use Rattle.ak_host.proofs.HeardBy.{told_of, heard_by-set, heard_by-push}
-use Rattle.ak_host.proofs.Outcomes.{on_ok_then}
-use Rattle.ak_host.proofs.heard.Heard.tell.Goals as goal
+use Rattle.ak_memhost.specs.Heard.{heard_by, IsFirstAt, IsNotBefore}
+use Rattle.ak_memhost.specs.declared.heard.PortBytes.{PortBytes}
+use Rattle.ak_memhost.proofs.HeardBy.{told_of, heard_by-set, heard_by-push}
+use Rattle.ak_memhost.proofs.Outcomes.{on_ok_then}
+use Rattle.ak_memhost.proofs.heard.Heard.tell.Goals as goal
 
 pub returns-in-Some-clause-ok : goal.returns-in-Some-clause-ok
 returns-in-Some-clause-ok c =

@@ -3,9 +3,9 @@ use Rattle.std.proofs.Common.{◌≡◌, ◌≢◌, inl, inr, ℕ, zero, suc, tr
 use Rattle.std.proofs.lemmas.Bool.{cases_eq, cases_Bool}
 use Rattle.std.proofs.lemmas.Bool.Decides.{nat_tests}
 use Rattle.std.proofs.lemmas.List.{append-nil}
-use Rattle.ak_host.specs.Heard.{heard_by, IsNotBefore, IsFirstAt}
+use Rattle.ak_memhost.specs.Heard.{heard_by, IsNotBefore, IsFirstAt}
 use Rattle.ak_host.specs.Marks.{Telling, told_to}
-use Rattle.ak_host.specs.declared.heard.PortBytes.{PortBytes}
+use Rattle.ak_memhost.specs.declared.heard.PortBytes.{PortBytes}
 
 -- a telling more at the end of the list of all
 pub told_to-push : (port : ℕ) (tellings : List Telling) (telling : Telling) → told_to port (tellings ++ telling ∷ []) ≡ told_to port tellings ++ (if telling.port == port then telling.bytes else [])
