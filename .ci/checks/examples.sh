@@ -1,5 +1,5 @@
 #!/usr/bin/env bash
-# The examples of README.md and docs/protocol.md: what the program tells for them, and its statuses.
+# The examples of README.md, docs/protocol.md and docs/operations.md: what the program tells for them, and its statuses.
 set -u
 akl=crates/akl/out/akl
 if [ ! -x "$akl" ]; then
@@ -26,6 +26,28 @@ gives '+cpu\r\n:1' '-ERR 16 input ended inside a message\r\n' 0
 gives '+cpu\r\n:100\r\n:5\r\n+cpu\r\n:99\r\n:6\r\n+cpu\r\n:100\r\n:7\r\n'"$query" \
   '-ERR 25 late, last 100\r\n$20\r\ncpu,100,5\ncpu,100,7\n\r\n' 0
 gives '+cpu\r\n:1\r\n:1\r\n?'"$query" '-ERR 29 not built\r\n' 0
+gives '+cpu\r\n:100\r\n:5\r\n+!flush\r\n' '+OK\r\n' 0
+gives "$(for time in $(seq 4093); do printf '+cpu\\r\\n:%d\\r\\n:1\\r\\n' "$time"; done)" \
+  '-ERR 26 metadata full, need 65545 room 65536\r\n' 0
 gives '' '' 0
+# a store in a directory: made, served, served again, and killed while it waits for more
+d=$(mktemp -d)
+gives '' '' 0 create "$d/d"
+gives '+cpu host=a\r\n:100\r\n:5\r\n+!flush\r\n' '+OK\r\n' 0 run "$d/d"
+gives "$query" '$17\r\ncpu host=a,100,5\n\r\n' 0 run "$d/d"
+gives '' 'akl: store exists\n' 9 create "$d/d"
+gives '' 'akl: no store\n' 8 run "$d/none"
+gives '' '' 0 create "$d/k"
+mkfifo "$d/in"
+"$akl" run "$d/k" <"$d/in" >"$d/out" &
+killed=$!
+exec 3>"$d/in"
+printf '+cpu\r\n:1\r\n:10\r\n+!flush\r\n+cpu\r\n:2\r\n:20\r\n' >&3
+for _ in $(seq 100); do [ -s "$d/out" ] && break; sleep 0.1; done
+{ kill -9 "$killed"; wait "$killed"; } 2>/dev/null
+exec 3>&-
+[ "$(cat "$d/out"; printf .)" = "$(printf '+OK\r\n.')" ] || { echo 'a flush was not confirmed'; status=1; }
+gives "$query" '$9\r\ncpu,1,10\n\r\n' 0 run "$d/k"
+rm -rf "$d"
 gives '' 'usage: akl [create|run|serve|soak DIR [options]]\n' 1 frob
 exit $status

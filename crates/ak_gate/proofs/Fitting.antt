@@ -64,7 +64,7 @@ module _ (view : View) (old : HostState) (fits : Fits view old) where
       fits_stable _ new (subst (Knows (record view { other_open = false })) (sym is) (closed_knows view (file_at old.files 0) fits.knows wrote.block (closed_first wrote.block wrote.first_byte) was_open)) stable
 
   -- a block of the other body may be torn
-  body_left : (index i : ℕ) → index ≡ body_index view.slot (other view.newest) + i → view.other_open ≡ false → i < view.slot → (disk : Files) → Follows (MayBeTorn 0 index) old disk
+  pub body_left : (index i : ℕ) → index ≡ body_index view.slot (other view.newest) + i → view.other_open ≡ false → i < view.slot → (disk : Files) → Follows (MayBeTorn 0 index) old disk
       → Stands view (file_at old.files 0) (file_at disk 0)
   body_left index i at closed within disk (before, left, torn) =
       let stands = fits.stands before left in

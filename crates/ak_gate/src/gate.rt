@@ -4,7 +4,7 @@ ghost use Rattle.ak_host.specs.Files.{Files, MayBeTorn, file_at, with_block, zer
 ghost use Rattle.ak_host.specs.Moments.{DiskPasses, LeavesNow, IsStable};
 ghost use Rattle.ak_host.specs.Causes.{HasCause};
 ghost use Rattle.ak_host.specs.Calls.{Follows, CountsOne};
-ghost use Rattle.ak_gate.specs.Fits.{IsSized, Fits, SameElsewhere, other_frame};
+ghost use Rattle.ak_gate.specs.Fits.{IsSized, Knows, Fits, SameElsewhere, other_frame};
 ghost use Rattle.ak_gate.specs.Opening.{HasSlots, IsBadSlot, IsCause, IsWhole, OnlyRead, slot_size};
 ghost use Rattle.ak_gate.specs.declared.half.Half.{Half};
 ghost use Rattle.ak_gate.specs.Slots.{other, gate_index, body_index, slot_number, newest};
@@ -99,6 +99,8 @@ impl Gate {
         ensures gate { IfOk result (λ opened. IsWhole opened.0 (D.state disk.new)) }
         ensures newest { D.tells → IfOk result (λ opened. newest opened.0.slot (D.state disk.old).files
             ≡ Some (record { number = opened.0.number; payload = opened.1 })) }
+        ensures knows { D.tells → IfOk result (λ opened. Knows opened.0 (file_at (D.state disk.old).files 0)) }
+        ensures short { IfOk result (λ opened. 16 + length opened.1 ≤ 4096 * opened.0.slot) }
         ensures none_bad { D.tells → IfOk result (λ opened. (half : Half) → ¬ IsBadSlot opened.0.slot half (file_at (D.state disk.old).files 0)) }
         ensures fits { D.tells → IsStable 0 (D.state disk.old) → IfOk result (λ opened. Fits opened.0 (D.state disk.new)) }
         ensures sizes { (D.state disk.new).sizes ≡ (D.state disk.old).sizes }

@@ -1,5 +1,5 @@
 //! Reading the slots of file 0.
-ghost use Rattle.std.specs.Prelude.{◌≡◌, ◌⊎◌, ◌<◌, ◌≤◌, ◌+◌, ◌-◌, ◌*◌, ◌^◌, ◌++◌, [], true, false, length, slice_index, take, drop, min, IfOk, OnOk, OnErr, MatchOption, IfErr};
+ghost use Rattle.std.specs.Prelude.{◌≡◌, ◌⊎◌, ◌<◌, ◌≤◌, ◌+◌, ◌-◌, ◌*◌, ◌^◌, ◌++◌, [], true, false, length, slice_index, take, drop, min, IfOk, OnOk, OnErr, MatchOption, IfSome, IfErr};
 ghost use Rattle.ak_host.specs.Causes.{Rose};
 ghost use Rattle.ak_host.specs.Files.{block_at, file_at};
 ghost use Rattle.ak_host.specs.Moments.{DiskPasses, LeavesNow};
@@ -70,6 +70,7 @@ pub(crate) fn read_slot<D: Disk>(
     ensures head { D.tells → IfOk result (λ head. MatchOption head
         (is_open (gate_at half (file_at (D.state disk.old).files 0)) ≡ false)
         (IsHeadOf slot half (file_at (D.state disk.old).files 0))) }
+    ensures short { IfOk result (λ head. IfSome head (λ head. 16 + head.length ≤ 4096 * slot)) }
     ensures only { D.tells → OnlyRead 2 (D.state disk.old) (D.state disk.new) }
 {
     let gate = read_block(disk, half.gate_index())?;
@@ -103,6 +104,7 @@ fn extend_by(
 ) -> Result<usize, Stop>
     requires { from ≤ 4096 }
     ensures ok { IfOk result (λ rest. (payload.new ≡ payload.old ++ take (min left (4096 - from)) (drop from block.now)) × (rest ≡ left - min left (4096 - from))) }
+    ensures short { IfOk result (λ rest. length payload.new + rest ≤ length payload.old + left) }
     ensures err { OnErr result (result ≡ Err Stop.Memory) }
 {
     let count = left.min(4096 - from);
@@ -128,6 +130,7 @@ fn read_more<D: Disk>(
     ensures err { OnErr result ((result ≡ Err Stop.Memory)
         ⊎ ((result ≡ Err Stop.Disk) × Rose (D.state disk.old).disk_faults (D.state disk.new).disk_faults)) }
     ensures goes_on { D.tells → IfOk result (GoesOn payload.old left (block_at (D.state disk.old).files 0 index) payload.new) }
+    ensures short { IfOk result (λ rest. length payload.new + rest ≤ length payload.old + left) }
     ensures only { D.tells → OnlyRead 1 (D.state disk.old) (D.state disk.new) }
 {
     if left == 0 {
@@ -154,6 +157,7 @@ pub(crate) fn read_payload<D: Disk>(
     ensures err { OnErr result ((result ≡ Err Stop.Memory)
         ⊎ ((result ≡ Err Stop.Disk) × Rose (D.state disk.old).disk_faults (D.state disk.new).disk_faults)) }
     ensures payload { D.tells → IfOk result (λ payload. payload ≡ (frame_of (body_at slot half (file_at (D.state disk.old).files 0))).payload) }
+    ensures short { IfOk result (λ payload. length payload ≤ head.now.length) }
     ensures only { D.tells → OnlyRead (slot - 1) (D.state disk.old) (D.state disk.new) }
 {
     let mut payload = Bytes::new(alloc);
@@ -216,6 +220,7 @@ pub(crate) fn read_found<D: Disk>(disk: &mut D, slot: u32) -> Result<Found, Stop
     ensures port_faults { (D.state disk.new).port_faults ≡ (D.state disk.old).port_faults }
     ensures err { IfErr result (IsCause slot D.tells (D.state disk.old) (D.state disk.new)) }
     ensures found { D.tells → IfOk result (IsFound slot (file_at (D.state disk.old).files 0)) }
+    ensures short { IfOk result (λ found. 16 + found.head.length ≤ 4096 * slot) }
     ensures only { D.tells → OnlyRead 4 (D.state disk.old) (D.state disk.new) }
 {
     let first = read_slot(disk, slot, Half::First)?;

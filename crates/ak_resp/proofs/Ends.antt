@@ -4,11 +4,12 @@ use Rattle.std.proofs.lemmas.List.{drop_more}
 use Rattle.std.proofs.lemmas.Bool.{cases_lt}
 use Rattle.std.specs.List.{AllByRecursion}
 use Rattle.ak_resp.specs.declared.message.Message.{Message}
-use Rattle.ak_resp.specs.declared.message.Message.TheVariants.{Put, Query}
+use Rattle.ak_resp.specs.declared.message.Message.TheVariants.{Put, Query, Flush}
 use Rattle.ak_resp.specs.declared.spot.Spot.{Spot}
-use Rattle.ak_resp.specs.declared.spot.Spot.TheVariants.{Start, First, Name, NameEnd, Time, TimeEnd, ValueFirst, Value, ValueEnd, Control, LengthFirst, Length, Open, Metric, Close}
-use Rattle.ak_resp.specs.Grammar.{IsNameByte, IsDigit, number_from, IsNumber, IsLength, IsMetricByte, Spells}
-use Rattle.ak_resp.specs.Machine.{number_mark, query_mark, text_front, text_end, IsValid, DigitsLeft, IsValueLine, AreNumberLines, IsQueryEnd, Completes}
+use Rattle.ak_resp.specs.declared.spot.Spot.TheVariants.{Start, First, Name, NameEnd, Time, TimeEnd, ValueFirst, Value, ValueEnd, Control, QueryFront, FlushEnd, LengthFirst, Length, Open, Metric, Close}
+use Rattle.ak_resp.specs.Grammar.{IsDigit, number_from, IsNumber, IsLength, IsMetricByte, Spells}
+use Rattle.ak_resp.specs.Machine.{number_mark, query_mark, flush_mark, text_front, text_end, IsValid, DigitsLeft, IsValueLine, AreNumberLines, IsQueryEnd, Completes}
+use Rattle.ak_resp.proofs.Small.{no_control_name}
 
 -- ---- By a byte at least
 
@@ -25,6 +26,7 @@ no_text text behind at h e =
 no_spelling : (m : Message) → Spells [] m → ⊥
 no_spelling (Put name time value) h = let e = h.5 in cc
 no_spelling (Query metric) h = let e = h.3 in cc
+no_spelling Flush h = let e = h in cc
 
 tail_of : (xs : List ℕ) → 43 ∷ [] ≡ 43 ∷ xs → [] ≡ xs
 tail_of xs e = cc
@@ -32,6 +34,12 @@ tail_of xs e = cc
 first_goes_on : (m : Message) → Spells (43 ∷ []) m → ⊥
 first_goes_on (Put name time value) h = let e = h.5 in no_end name _ 13 (tail_of _ e)
 first_goes_on (Query metric) h = let e = h.3 in cc
+first_goes_on Flush h = let e = h in cc
+
+control_goes_on : (m : Message) → Spells (43 ∷ 33 ∷ []) m → ⊥
+control_goes_on (Put name time value) h = no_control_name name _ [] h.2 h.5
+control_goes_on (Query metric) h = let e = h.3 in cc
+control_goes_on Flush h = let e = h in cc
 
 no_length : (digits behind metric : List ℕ) (n : ℕ) → IsQueryEnd n behind metric → [] ≡ digits ++ behind → ⊥
 no_length digits behind metric n q e = no_end digits (text_front ++ q.0) 13 (rw q.3 at e)
@@ -46,7 +54,9 @@ goes_on (TimeEnd name time at) m v h = no_text number_mark h.0 at v h.3
 goes_on (ValueFirst name time) m v h = no_end h.1.0 (10 ∷ []) 13 h.1.2
 goes_on (Value name time negative count read) m v h = no_end h.0 (10 ∷ []) 13 h.3
 goes_on (ValueEnd name time value) m v h = let e = h.0 in cc
-goes_on (Control at) m v h = no_text query_mark (h.0 ++ h.1) at v h.6
+goes_on Control m v h = control_goes_on m h
+goes_on (QueryFront at) m v h = no_text query_mark (h.0 ++ h.1) at v h.6
+goes_on (FlushEnd at) m v h = no_text flush_mark [] at v (rw append-nil h.0)
 goes_on LengthFirst m v h = no_length h.0 h.1 h.2 h.3 h.5 h.6
 goes_on (Length read) m v h = no_length h.0 h.1 h.2 (number_from read h.0) h.4 h.5
 goes_on (Open n at) m v h = no_text text_front h.0 at v.2 h.4
@@ -81,16 +91,6 @@ zero_line = (48 ∷ [], (48 ∷ [], 0, zero_number, inl (refl, refl)), refl)
 zero_lines : AreNumberLines (48 ∷ 13 ∷ 10 ∷ 58 ∷ 48 ∷ 13 ∷ 10 ∷ []) 0 (pos 0)
 zero_lines = (48 ∷ [], 48 ∷ 13 ∷ 10 ∷ [], zero_number, zero_line, refl)
 
--- a put of the name `a`
-put_text : List ℕ
-put_text = 97 ∷ 13 ∷ 10 ∷ 58 ∷ 48 ∷ 13 ∷ 10 ∷ 58 ∷ 48 ∷ 13 ∷ 10 ∷ []
-
-put_spells : Spells (43 ∷ put_text) (Put (97 ∷ []) 0 (pos 0))
-unfolding put_text
-put_spells =
-    let good : IsNameByte 97 = record { least = lit≤ tt; most = lit≤ tt; no_comma = λ e. absurd (omega (arith, e)); no_quote = λ e. absurd (omega (arith, e)) } in
-    (48 ∷ [], 48 ∷ [], (good, (λ e. absurd (omega (arith, e))), (λ e. absurd (omega (arith, e))), tt, lit≤ tt), zero_number, (48 ∷ [], 0, zero_number, inl (refl, refl)), refl)
-
 -- Behind at most 18 digits there is an end, with one more digit where there is none.
 digits_end : (count read : ℕ) → count ≤ 18 → (digits : List ℕ) × (n : ℕ) × DigitsLeft count read digits n
 digits_end zero read h = (48 ∷ [], number_from read (48 ∷ []), record { some = lit≤ tt; few = lit≤ tt; each = (zero_digit, tt); is = refl })
@@ -122,8 +122,8 @@ length_ends read least most (inl h) =
     (52 ∷ q.0, Query q.1, (52 ∷ [], q.0, q.1, (four, tt), q.2, refl, refl))
 
 pub ends : (s : Spot) → IsValid s → (bytes : List ℕ) × (m : Message) × Completes s bytes m
-ends Start v = (43 ∷ put_text, Put (97 ∷ []) 0 (pos 0), put_spells)
-ends First v = (put_text, Put (97 ∷ []) 0 (pos 0), put_spells)
+ends Start v = (43 ∷ 33 ∷ 102 ∷ flush_mark, Flush, refl)
+ends First v = (33 ∷ 102 ∷ flush_mark, Flush, refl)
 ends (Name name) v = (13 ∷ 10 ∷ 58 ∷ _, Put name 0 (pos 0), ([], _, 0, pos 0, tt, omega arith, zero_lines, refl, rw append-nil refl))
 ends (NameEnd name at) v = (drop at number_mark ++ _, Put name 0 (pos 0), (_, 0, pos 0, zero_lines, refl, refl))
 ends (Time name count read) v =
@@ -135,7 +135,9 @@ ends (Value name time negative count read) v =
     let d = digits_end count read v.0 in
     (d.0 ++ 13 ∷ 10 ∷ [], _, (d.0, d.1, d.2, refl, refl))
 ends (ValueEnd name time value) v = (10 ∷ [], Put name time value, (refl, refl))
-ends (Control at) v =
+ends Control v = (102 ∷ flush_mark, Flush, refl)
+ends (FlushEnd at) v = (drop at flush_mark, Flush, (refl, refl))
+ends (QueryFront at) v =
     let q = query_end 14 (lit≤ tt) (lit≤ tt) in
     (drop at query_mark ++ ((49 ∷ 52 ∷ []) ++ q.0), Query q.1, (49 ∷ 52 ∷ [], q.0, q.1, 14, fourteen, q.2, refl, refl))
 ends LengthFirst v =

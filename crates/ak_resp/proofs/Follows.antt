@@ -4,16 +4,16 @@ use Rattle.std.proofs.lemmas.List.{drop_more, drop_all, length-append}
 use Rattle.std.proofs.lemmas.Bool.Decides.{nat_tests}
 use Rattle.std.specs.List.{AllByRecursion}
 use Rattle.ak_resp.specs.declared.message.Message.{Message}
-use Rattle.ak_resp.specs.declared.message.Message.TheVariants.{Put, Query}
+use Rattle.ak_resp.specs.declared.message.Message.TheVariants.{Put, Query, Flush}
 use Rattle.ak_resp.specs.declared.spot.Spot.{Spot}
-use Rattle.ak_resp.specs.declared.spot.Spot.TheVariants.{Start, First, Name, NameEnd, Time, TimeEnd, ValueFirst, Value, ValueEnd, Control, LengthFirst, Length, Open, Metric, Close}
+use Rattle.ak_resp.specs.declared.spot.Spot.TheVariants.{Start, First, Name, NameEnd, Time, TimeEnd, ValueFirst, Value, ValueEnd, Control, QueryFront, FlushEnd, LengthFirst, Length, Open, Metric, Close}
 use Rattle.ak_resp.specs.declared.spot.Outcome.{Outcome}
 use Rattle.ak_resp.specs.declared.spot.Outcome.TheVariants.{Going, Whole, Refused}
 use Rattle.ak_resp.specs.declared.spot.TextRead.{TextRead}
 use Rattle.ak_resp.specs.declared.spot.TextRead.TheVariants.{Wrong, On, Done}
 use Rattle.ak_resp.specs.Grammar.{IsNameByte, IsName, IsDigit, number_from, IsNumber, IsValue, IsLength, IsMetricByte, IsMetric, query_text, line, Spells}
-use Rattle.ak_resp.specs.Machine.{is_digit, is_name_byte, is_metric_byte, with_digit, read_text, number_mark, query_mark, text_front, text_end, at_start, at_first, at_name, name_end_as, at_time, time_end_as, at_value_first, at_value, at_value_end, control_as, at_length_first, at_length, open_as, at_metric, close_as, step, IsValid, DigitsLeft, IsValueLine, AreNumberLines, IsMetricEnd, IsQueryEnd, Completes}
-use Rattle.ak_resp.proofs.Small.{eq_is, ne_is, both_true, digit_is, name_byte_is, metric_byte_is, value_exact, digits_more}
+use Rattle.ak_resp.specs.Machine.{is_digit, is_name_byte, is_metric_byte, with_digit, read_text, number_mark, query_mark, flush_mark, text_front, text_end, at_start, at_first, at_name, name_end_as, at_time, time_end_as, at_value_first, at_value, at_value_end, at_control, query_front_as, flush_end_as, at_length_first, at_length, open_as, at_metric, close_as, step, IsValid, DigitsLeft, IsValueLine, AreNumberLines, IsMetricEnd, IsQueryEnd, Completes}
+use Rattle.ak_resp.proofs.Small.{eq_is, ne_is, both_true, digit_is, name_byte_is, metric_byte_is, no_control_name, value_exact, digits_more}
 
 -- what an outcome leaves of a message: these bytes
 abbrev pub Follows : Outcome → List ℕ → Message → Type 0
@@ -29,7 +29,7 @@ on_false : (t : Bool) (x y : Outcome) (bs : List ℕ) (m : Message) → t ≡ fa
 on_false true x y bs m e h = cc
 on_false false x y bs m e h = h
 
-tail_is : (b : ℕ) (bs xs : List ℕ) → 43 ∷ b ∷ bs ≡ 43 ∷ 33 ∷ xs → bs ≡ xs
+tail_is : (b : ℕ) (bs xs : List ℕ) → 43 ∷ 33 ∷ b ∷ bs ≡ 43 ∷ 33 ∷ 113 ∷ xs → bs ≡ xs
 tail_is b bs xs e = cc
 
 -- ---- Texts
@@ -179,23 +179,38 @@ value_end name bs time value b m e is =
     let rest : bs ≡ [] = cc in
     on_true (nat_eq b 10) _ _ bs m (eq_is b 10 byte) (rest, is)
 
+-- ---- Behind `+!`
+
+flush_control : (bs : List ℕ) (b : ℕ) (m : Message) → 43 ∷ 33 ∷ b ∷ bs ≡ line 43 (codes "!flush") [] → m ≡ Flush → Follows (at_control b) bs m
+flush_control bs b m e is =
+    let byte : b ≡ 102 = cc in
+    let rest : bs ≡ flush_mark = cc in
+    let other : b ≢ 113 = omega (arith, byte) in
+    on_false (nat_eq b 113) _ _ bs m (ne_is b 113 other)
+    (on_true (nat_eq b 102) _ _ bs m (eq_is b 102 byte) (rest, is))
+
+flush_end_follows : (o : TextRead) (bs : List ℕ) (m : Message) → m ≡ Flush → TextFollows o flush_mark bs [] → Follows (flush_end_as o) bs m
+flush_end_follows Wrong bs m is h = h
+flush_end_follows (On at) bs m is h = (rw append-nil at h, is)
+flush_end_follows Done bs m is h = (h, is)
+
 -- ---- A query
 
-query_first : (metric digits bs : List ℕ) (b : ℕ) (m : Message) → IsMetric metric → IsLength digits (length (query_text metric)) →
-    43 ∷ b ∷ bs ≡ line 43 (codes "!query") (line 36 digits (query_text metric ++ 13 ∷ 10 ∷ [])) → m ≡ Query metric → Follows (at_first b) bs m
-query_first metric digits bs b m k l e is =
-    let byte : b ≡ 33 = cc in
+query_control : (metric digits bs : List ℕ) (b : ℕ) (m : Message) → IsMetric metric → IsLength digits (length (query_text metric)) →
+    43 ∷ 33 ∷ b ∷ bs ≡ line 43 (codes "!query") (line 36 digits (query_text metric ++ 13 ∷ 10 ∷ [])) → m ≡ Query metric → Follows (at_control b) bs m
+query_control metric digits bs b m k l e is =
+    let byte : b ≡ 113 = cc in
     let text : query_text metric ++ 13 ∷ 10 ∷ [] ≡ codes "{\"select\":\"" ++ (metric ++ 34 ∷ text_end) = ap (λ xs. codes "{\"select\":\"" ++ xs) (append_assoc metric (codes "\"}") (13 ∷ 10 ∷ [])) in
     let rest : bs ≡ query_mark ++ (digits ++ 13 ∷ (text_front ++ (metric ++ 34 ∷ text_end))) = rw text at (tail_is b bs _ e) in
     let size : length (query_text metric) ≡ 13 + length metric = omega (arith, length-append {A = ℕ}) in
-    on_true (nat_eq b 33) _ _ bs m (eq_is b 33 byte)
+    on_true (nat_eq b 113) _ _ bs m (eq_is b 113 byte)
     (digits, 13 ∷ (text_front ++ (metric ++ 34 ∷ text_end)), metric, length (query_text metric), l, (metric ++ 34 ∷ text_end, (k, refl), size, refl), rest, is)
 
-control_follows : (o : TextRead) (digits behind metric bs : List ℕ) (n : ℕ) (m : Message) → IsLength digits n → IsQueryEnd n behind metric → m ≡ Query metric →
-    TextFollows o query_mark bs (digits ++ behind) → Follows (control_as o) bs m
-control_follows Wrong digits behind metric bs n m l q is h = h
-control_follows (On at) digits behind metric bs n m l q is h = (digits, behind, metric, n, l, q, h, is)
-control_follows Done digits behind metric bs n m l q is h = (digits, behind, metric, n, l, q, h, is)
+query_front_follows : (o : TextRead) (digits behind metric bs : List ℕ) (n : ℕ) (m : Message) → IsLength digits n → IsQueryEnd n behind metric → m ≡ Query metric →
+    TextFollows o query_mark bs (digits ++ behind) → Follows (query_front_as o) bs m
+query_front_follows Wrong digits behind metric bs n m l q is h = h
+query_front_follows (On at) digits behind metric bs n m l q is h = (digits, behind, metric, n, l, q, h, is)
+query_front_follows Done digits behind metric bs n m l q is h = (digits, behind, metric, n, l, q, h, is)
 
 length_first : (digits behind metric bs : List ℕ) (n b : ℕ) (m : Message) → IsLength digits n → IsQueryEnd n behind metric → b ∷ bs ≡ digits ++ behind → m ≡ Query metric → Follows (at_length_first b) bs m
 length_first [] behind metric bs n b m l q e is = absurd l
@@ -272,10 +287,23 @@ start_follows b bs (Put name time value) h =
 start_follows b bs (Query metric) h =
     let byte : b ≡ 43 = let e = h.3 in cc in
     on_true (nat_eq b 43) _ _ bs (Query metric) (eq_is b 43 byte) (let P : ℕ → Type 0 = λ x. Spells (x ∷ bs) (Query metric) in subst P byte h)
+start_follows b bs Flush h =
+    let byte : b ≡ 43 = let e = h in cc in
+    on_true (nat_eq b 43) _ _ bs Flush (eq_is b 43 byte) (let P : ℕ → Type 0 = λ x. Spells (x ∷ bs) Flush in subst P byte h)
 
 first_follows : (b : ℕ) (bs : List ℕ) (m : Message) → Spells (43 ∷ b ∷ bs) m → Follows (at_first b) bs m
 first_follows b bs (Put name time value) h = put_first name h.0 h.1 bs time value b (Put name time value) h.2 h.3 h.4 h.5 refl
-first_follows b bs (Query metric) h = query_first metric h.0 bs b (Query metric) h.1 h.2 h.3 refl
+first_follows b bs (Query metric) h =
+    let byte : b ≡ 33 = let e = h.3 in cc in
+    on_true (nat_eq b 33) _ _ bs (Query metric) (eq_is b 33 byte) (let P : ℕ → Type 0 = λ x. Spells (43 ∷ x ∷ bs) (Query metric) in subst P byte h)
+first_follows b bs Flush h =
+    let byte : b ≡ 33 = let e = h in cc in
+    on_true (nat_eq b 33) _ _ bs Flush (eq_is b 33 byte) (let P : ℕ → Type 0 = λ x. Spells (43 ∷ x ∷ bs) Flush in subst P byte h)
+
+control_follows : (b : ℕ) (bs : List ℕ) (m : Message) → Spells (43 ∷ 33 ∷ b ∷ bs) m → Follows (at_control b) bs m
+control_follows b bs (Put name time value) h = absurd (no_control_name name _ (b ∷ bs) h.2 h.5)
+control_follows b bs (Query metric) h = query_control metric h.0 bs b (Query metric) h.1 h.2 h.3 refl
+control_follows b bs Flush h = flush_control bs b Flush h refl
 
 pub follows : (s : Spot) (b : ℕ) (bs : List ℕ) (m : Message) → IsValid s → Completes s (b ∷ bs) m → Follows (step s b) bs m
 follows Start b bs m v h = start_follows b bs m h
@@ -287,7 +315,9 @@ follows (TimeEnd name time at) b bs m v h = time_end_follows (read_text number_m
 follows (ValueFirst name time) b bs m v h = value_first name h.1.0 bs time b h.0 m h.1.1 h.1.2 h.2
 follows (Value name time negative count read) b bs m v h = value_more name h.0 bs time negative count read h.1 b m v.0 v.1 h.2 h.3 h.4
 follows (ValueEnd name time value) b bs m v h = value_end name bs time value b m h.0 h.1
-follows (Control at) b bs m v h = control_follows (read_text query_mark at b) h.0 h.1 h.2 bs h.3 m h.4 h.5 h.7 (text_follows query_mark bs (h.0 ++ h.1) at b v h.6)
+follows Control b bs m v h = control_follows b bs m h
+follows (QueryFront at) b bs m v h = query_front_follows (read_text query_mark at b) h.0 h.1 h.2 bs h.3 m h.4 h.5 h.7 (text_follows query_mark bs (h.0 ++ h.1) at b v h.6)
+follows (FlushEnd at) b bs m v h = flush_end_follows (read_text flush_mark at b) bs m h.1 (text_follows flush_mark bs [] at b v (rw append-nil h.0))
 follows LengthFirst b bs m v h = length_first h.0 h.1 h.2 bs h.3 b m h.4 h.5 h.6 h.7
 follows (Length read) b bs m v h = length_more h.0 h.1 h.2 bs read b m h.3 h.4 h.5 h.6
 follows (Open n at) b bs m v h = open_follows (read_text text_front at b) h.0 h.1 bs n m h.2 h.3 h.5 (text_follows text_front bs h.0 at b v.2 h.4)

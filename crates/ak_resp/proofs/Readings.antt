@@ -1,5 +1,5 @@
 -- Every stream is read by some reader.
-use Rattle.std.proofs.Common.{ℕ, ◌≡◌, List, [], ◌∷◌, ◌++◌, Bool, true, false, Option, Some, None, Ok, Err, refl, sym, ap, subst, append_assoc}
+use Rattle.std.proofs.Common.{ℕ, ◌≡◌, List, [], ◌∷◌, ◌++◌, Bool, true, false, Some, None, Ok, Err, refl, sym, subst, append_assoc}
 use Rattle.std.proofs.lemmas.List.{append-nil}
 use Rattle.ak_base.specs.declared.refusal.Refusal.TheVariants.{NotBuilt}
 use Rattle.ak_resp.specs.declared.message.Message.{Message}

@@ -1,9 +1,9 @@
 -- Tests of bytes, and numbers with a digit behind them.
-use Rattle.std.proofs.Common.{ℕ, ◌≡◌, ◌≢◌, ◌+◌, ◌*◌, ◌-◌, ◌^◌, ◌<◌, ◌≤◌, ◌⊎◌, pos, ◌-ℤ◌, min, List, ◌∷◌, Bool, true, false, ◌&&◌, ◌||◌, cond, nat_eq, nat_le, inl, inr, length, refl, arith, lit<, suc}
+use Rattle.std.proofs.Common.{ℕ, ◌≡◌, ◌≢◌, ◌+◌, ◌*◌, ◌-◌, ◌^◌, ◌<◌, ◌≤◌, ◌⊎◌, pos, ◌-ℤ◌, min, List, [], ◌∷◌, ◌++◌, Bool, true, false, ◌&&◌, ◌||◌, cond, nat_eq, nat_le, inl, inr, length, refl, arith, lit<, suc}
 use Rattle.std.proofs.Math.Nat.{pow-le-pow_right}
 use Rattle.std.proofs.lemmas.Grind.{pow_more}
 use Rattle.std.proofs.lemmas.Bool.Decides.{nat_tests}
-use Rattle.ak_resp.specs.Grammar.{IsNameByte, IsDigit, IsMetricByte}
+use Rattle.ak_resp.specs.Grammar.{IsNameByte, IsName, IsDigit, IsMetricByte}
 use Rattle.ak_resp.specs.Machine.{is_digit, is_name_byte, is_metric_byte, with_digit, value_of, DigitsLeft}
 
 pub eq_is : (a b : ℕ) → a ≡ b → nat_eq a b ≡ true
@@ -86,6 +86,13 @@ metric_byte_from b e =
         ]
       ]
     ]
+
+-- ---- Names
+
+-- no name begins with `!`
+pub no_control_name : (name rest bs : List ℕ) → IsName name → 43 ∷ 33 ∷ bs ≡ 43 ∷ (name ++ 13 ∷ rest) → ⊥
+no_control_name [] rest bs n e = n
+no_control_name (x ∷ xs) rest bs n e = let byte : x ≡ 33 = cc in n.1 byte
 
 -- ---- Numbers
 

@@ -4,15 +4,15 @@ use Rattle.std.proofs.lemmas.List.{drop_more, drop_all, length-append}
 use Rattle.std.proofs.lemmas.Bool.Decides.{nat_tests}
 use Rattle.std.specs.List.{AllByRecursion}
 use Rattle.ak_resp.specs.declared.message.Message.{Message}
-use Rattle.ak_resp.specs.declared.message.Message.TheVariants.{Put, Query}
+use Rattle.ak_resp.specs.declared.message.Message.TheVariants.{Put, Query, Flush}
 use Rattle.ak_resp.specs.declared.spot.Spot.{Spot}
-use Rattle.ak_resp.specs.declared.spot.Spot.TheVariants.{Start, First, Name, NameEnd, Time, TimeEnd, ValueFirst, Value, ValueEnd, Control, LengthFirst, Length, Open, Metric, Close}
+use Rattle.ak_resp.specs.declared.spot.Spot.TheVariants.{Start, First, Name, NameEnd, Time, TimeEnd, ValueFirst, Value, ValueEnd, Control, QueryFront, FlushEnd, LengthFirst, Length, Open, Metric, Close}
 use Rattle.ak_resp.specs.declared.spot.Outcome.{Outcome}
 use Rattle.ak_resp.specs.declared.spot.Outcome.TheVariants.{Going, Whole, Refused}
 use Rattle.ak_resp.specs.declared.spot.TextRead.{TextRead}
 use Rattle.ak_resp.specs.declared.spot.TextRead.TheVariants.{Wrong, On, Done}
 use Rattle.ak_resp.specs.Grammar.{IsNameByte, IsDigit, number_from, IsNumber, IsLength, query_text, Spells}
-use Rattle.ak_resp.specs.Machine.{is_digit, is_name_byte, is_metric_byte, with_digit, value_of, read_text, number_mark, query_mark, text_front, text_end, at_start, at_first, at_name, name_end_as, at_time, time_end_as, at_value_first, at_value, at_value_end, control_as, at_length_first, at_length, open_as, at_metric, close_as, step, is_start, IsValid, DigitsLeft, AreNumberLines, IsQueryEnd, Completes}
+use Rattle.ak_resp.specs.Machine.{is_digit, is_name_byte, is_metric_byte, with_digit, value_of, read_text, number_mark, query_mark, flush_mark, text_front, text_end, at_start, at_first, at_name, name_end_as, at_time, time_end_as, at_value_first, at_value, at_value_end, at_control, query_front_as, flush_end_as, at_length_first, at_length, open_as, at_metric, close_as, step, is_start, IsValid, DigitsLeft, AreNumberLines, IsQueryEnd, Completes}
 use Rattle.ak_resp.proofs.Small.{is_eq, is_ne, and_true, digit_from, name_byte_from, metric_byte_from, value_exact, digit_exact, digits_back}
 
 -- what an outcome says of a spot and a byte
@@ -102,15 +102,18 @@ name_spells b more bs behind time value m good control space each fits lines e i
     let fewer : suc (length more) ≤ 512 = omega arith in
     rw (is, e, lines.4, lines.3.2) (lines.0, lines.3.0, (good, control, space, each, fewer), lines.2, lines.3.1, refl)
 
-query_spells : (b n : ℕ) (digits behind metric bs : List ℕ) (m : Message) → b ≡ 33 → IsLength digits n → IsQueryEnd n behind metric → bs ≡ query_mark ++ (digits ++ behind) → m ≡ Query metric → Spells (43 ∷ b ∷ bs) m
+query_spells : (b n : ℕ) (digits behind metric bs : List ℕ) (m : Message) → b ≡ 113 → IsLength digits n → IsQueryEnd n behind metric → bs ≡ query_mark ++ (digits ++ behind) → m ≡ Query metric → Spells (43 ∷ 33 ∷ b ∷ bs) m
 query_spells b n digits behind metric bs m byte l q e is =
     let size : n ≡ length (query_text metric) = omega (arith, q.2, length-append {A = ℕ}) in
     let text : query_text metric ++ 13 ∷ 10 ∷ [] ≡ codes "{\"select\":\"" ++ (metric ++ 34 ∷ text_end) = ap (λ xs. codes "{\"select\":\"" ++ xs) (append_assoc metric (codes "\"}") (13 ∷ 10 ∷ [])) in
     rw (is, byte, e, q.3, q.1.1) (digits, q.1.0, rw size at l, rw text refl)
 
+flush_spells : (b : ℕ) (bs : List ℕ) (m : Message) → b ≡ 102 → bs ≡ flush_mark → m ≡ Flush → Spells (43 ∷ 33 ∷ b ∷ bs) m
+flush_spells b bs m byte e is = rw (is, byte, e) refl
+
 first_sound : (b : ℕ) → Sound First b (at_first b)
-first_sound b = either First b (nat_eq b 33) (Going (Control 0)) _
-    (λ t. (lit< tt, refl, λ bs m h. query_spells b h.3 h.0 h.1 h.2 bs m (is_eq b 33 t) h.4 h.5 h.6 h.7))
+first_sound b = either First b (nat_eq b 33) (Going Control) _
+    (λ t. (tt, refl, λ bs m h. let P : ℕ → Type 0 = λ x. Spells (43 ∷ x ∷ bs) m in subst P (sym (is_eq b 33 t)) h))
     (λ control. either First b (is_name_byte b && not (nat_eq b 32)) (Going (Name (b ∷ []))) Refused
     (λ t. let two = and_true (is_name_byte b) (not (nat_eq b 32)) t in
     let space : b ≢ 32 = grind (arith, nat_tests, two.1) in
@@ -180,12 +183,25 @@ value_end_sound : (name : List ℕ) (time : ℕ) (value : ℤ) (b : ℕ) → Sou
 value_end_sound name time value b = either (ValueEnd name time value) b (nat_eq b 10) (Whole (Put name time value)) Refused
     (λ t. (rw (is_eq b 10 t) refl, refl)) (λ t. tt)
 
+-- ---- Behind `+!`
+
+control_sound : (b : ℕ) → Sound Control b (at_control b)
+control_sound b = either Control b (nat_eq b 113) (Going (QueryFront 0)) _
+    (λ t. (lit< tt, refl, λ bs m h. query_spells b h.3 h.0 h.1 h.2 bs m (is_eq b 113 t) h.4 h.5 h.6 h.7))
+    (λ q. either Control b (nat_eq b 102) (Going (FlushEnd 0)) Refused
+    (λ t. (lit< tt, refl, λ bs m h. flush_spells b bs m (is_eq b 102 t) h.0 h.1)) (λ t. tt))
+
+flush_end_sound : (o : TextRead) (at b : ℕ) → TextSound o flush_mark at b → Sound (FlushEnd at) b (flush_end_as o)
+flush_end_sound Wrong at b h = tt
+flush_end_sound (On k) at b h = (h.0, refl, λ bs m c. (rw (h.1, c.0) refl, c.1))
+flush_end_sound Done at b h = (sym h, refl)
+
 -- ---- A query
 
-control_sound : (o : TextRead) (at b : ℕ) → TextSound o query_mark at b → Sound (Control at) b (control_as o)
-control_sound Wrong at b h = tt
-control_sound (On k) at b h = (h.0, refl, λ bs m c. (c.0, c.1, c.2, c.3, c.4, c.5, text_joins query_mark (c.0 ++ c.1) bs at b k h.1 c.6, c.7))
-control_sound Done at b h = (tt, refl, λ bs m c. (c.0, c.1, c.2, c.3, c.4, c.5, text_done_as query_mark (c.0 ++ c.1) bs at b h c.6, c.7))
+query_front_sound : (o : TextRead) (at b : ℕ) → TextSound o query_mark at b → Sound (QueryFront at) b (query_front_as o)
+query_front_sound Wrong at b h = tt
+query_front_sound (On k) at b h = (h.0, refl, λ bs m c. (c.0, c.1, c.2, c.3, c.4, c.5, text_joins query_mark (c.0 ++ c.1) bs at b k h.1 c.6, c.7))
+query_front_sound Done at b h = (tt, refl, λ bs m c. (c.0, c.1, c.2, c.3, c.4, c.5, text_done_as query_mark (c.0 ++ c.1) bs at b h c.6, c.7))
 
 length_first_sound : (b : ℕ) → Sound LengthFirst b (at_length_first b)
 length_first_sound b = either LengthFirst b (is_digit b && not (nat_eq b 48)) (Going (Length (b - 48))) Refused
@@ -245,7 +261,9 @@ sound (TimeEnd name time at) b v = time_end_sound (read_text number_mark at b) n
 sound (ValueFirst name time) b v = value_first_sound name time b
 sound (Value name time negative count read) b v = value_sound name time negative count read b v.0 v.1
 sound (ValueEnd name time value) b v = value_end_sound name time value b
-sound (Control at) b v = control_sound (read_text query_mark at b) at b (text_sound query_mark at b v)
+sound Control b v = control_sound b
+sound (QueryFront at) b v = query_front_sound (read_text query_mark at b) at b (text_sound query_mark at b v)
+sound (FlushEnd at) b v = flush_end_sound (read_text flush_mark at b) at b (text_sound flush_mark at b v)
 sound LengthFirst b v = length_first_sound b
 sound (Length read) b v = length_sound read b v.0 v.1
 sound (Open n at) b v = open_sound (read_text text_front at b) n at b v.0 v.1 (text_sound text_front at b v.2)

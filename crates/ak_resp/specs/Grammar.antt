@@ -2,7 +2,7 @@
 use Rattle.std.specs.Prelude.{ℕ, ◌≡◌, ◌≢◌, ◌+◌, ◌*◌, ◌-◌, ◌<◌, ◌≤◌, ◌++◌, ◌⊎◌, ℤ, pos, ◌-ℤ◌, List, [], ◌∷◌, length, take, codes}
 use Rattle.std.specs.List.{AllByRecursion}
 use Rattle.ak_resp.specs.declared.message.Message.{Message}
-use Rattle.ak_resp.specs.declared.message.Message.TheVariants.{Put, Query}
+use Rattle.ak_resp.specs.declared.message.Message.TheVariants.{Put, Query, Flush}
 
 -- ---- Names, numbers and metrics
 
@@ -69,6 +69,7 @@ Spells bytes (Put name time value) = (digits : List ℕ) × (text : List ℕ) ×
     × (bytes ≡ line 43 name (line 58 digits (line 58 text [])))
 Spells bytes (Query metric) = (digits : List ℕ) × IsMetric metric × IsLength digits (length (query_text metric))
     × (bytes ≡ line 43 (codes "!query") (line 36 digits (query_text metric ++ (13 ∷ 10 ∷ []))))
+Spells bytes Flush = bytes ≡ line 43 (codes "!flush") []
 
 -- ---- Streams
 

@@ -2,9 +2,9 @@
 use Rattle.std.specs.Prelude.{ℕ, ◌≡◌, ◌+◌, ◌*◌, ◌-◌, ◌^◌, ◌<◌, ◌≤◌, ◌++◌, min, ℤ, pos, ◌-ℤ◌, List, [], ◌∷◌, Bool, true, false, not, ◌&&◌, ◌||◌, if◌then◌else◌, nat_eq, nat_lt, nat_le, slice_index, length, drop, codes}
 use Rattle.std.specs.List.{AllByRecursion}
 use Rattle.ak_resp.specs.declared.message.Message.{Message}
-use Rattle.ak_resp.specs.declared.message.Message.TheVariants.{Put, Query}
+use Rattle.ak_resp.specs.declared.message.Message.TheVariants.{Put, Query, Flush}
 use Rattle.ak_resp.specs.declared.spot.Spot.{Spot}
-use Rattle.ak_resp.specs.declared.spot.Spot.TheVariants.{Start, First, Name, NameEnd, Time, TimeEnd, ValueFirst, Value, ValueEnd, Control, LengthFirst, Length, Open, Metric, Close}
+use Rattle.ak_resp.specs.declared.spot.Spot.TheVariants.{Start, First, Name, NameEnd, Time, TimeEnd, ValueFirst, Value, ValueEnd, Control, QueryFront, FlushEnd, LengthFirst, Length, Open, Metric, Close}
 use Rattle.ak_resp.specs.declared.spot.Outcome.{Outcome}
 use Rattle.ak_resp.specs.declared.spot.Outcome.TheVariants.{Going, Whole, Refused}
 use Rattle.ak_resp.specs.declared.spot.TextRead.{TextRead}
@@ -41,9 +41,13 @@ read_text text at b = if nat_le (length text) at || not (nat_eq (slice_index tex
 abbrev pub number_mark : List ℕ
 number_mark = 10 ∷ 58 ∷ []
 
--- what stands between `+!` and the length of a query's text
+-- what stands between `+!q` and the length of a query's text
 abbrev pub query_mark : List ℕ
-query_mark = codes "query" ++ 13 ∷ 10 ∷ 36 ∷ []
+query_mark = codes "uery" ++ 13 ∷ 10 ∷ 36 ∷ []
+
+-- what stands behind `+!f`
+abbrev pub flush_mark : List ℕ
+flush_mark = codes "lush" ++ 13 ∷ 10 ∷ []
 
 -- what stands between the CR behind a length and the metric
 abbrev pub text_front : List ℕ
@@ -57,7 +61,7 @@ abbrev pub at_start : ℕ → Outcome
 at_start b = if nat_eq b 43 then Going First else Refused
 
 abbrev pub at_first : ℕ → Outcome
-at_first b = if nat_eq b 33 then Going (Control 0) else
+at_first b = if nat_eq b 33 then Going Control else
     (if is_name_byte b && not (nat_eq b 32) then Going (Name (b ∷ [])) else Refused)
 
 abbrev pub at_name : List ℕ → ℕ → Outcome
@@ -96,13 +100,24 @@ at_value name time negative digits magnitude b = if nat_eq b 13 then
 abbrev pub at_value_end : List ℕ → ℕ → ℤ → ℕ → Outcome
 at_value_end name time value b = if nat_eq b 10 then Whole (Put name time value) else Refused
 
-abbrev pub control_as : TextRead → Outcome
-control_as Wrong = Refused
-control_as (On at) = Going (Control at)
-control_as Done = Going LengthFirst
+abbrev pub at_control : ℕ → Outcome
+at_control b = if nat_eq b 113 then Going (QueryFront 0) else (if nat_eq b 102 then Going (FlushEnd 0) else Refused)
 
-abbrev pub at_control : ℕ → ℕ → Outcome
-at_control at b = control_as (read_text query_mark at b)
+abbrev pub query_front_as : TextRead → Outcome
+query_front_as Wrong = Refused
+query_front_as (On at) = Going (QueryFront at)
+query_front_as Done = Going LengthFirst
+
+abbrev pub at_query_front : ℕ → ℕ → Outcome
+at_query_front at b = query_front_as (read_text query_mark at b)
+
+abbrev pub flush_end_as : TextRead → Outcome
+flush_end_as Wrong = Refused
+flush_end_as (On at) = Going (FlushEnd at)
+flush_end_as Done = Whole Flush
+
+abbrev pub at_flush_end : ℕ → ℕ → Outcome
+at_flush_end at b = flush_end_as (read_text flush_mark at b)
 
 abbrev pub at_length_first : ℕ → Outcome
 at_length_first b = if is_digit b && not (nat_eq b 48) then Going (Length (b - 48)) else Refused
@@ -142,7 +157,9 @@ step (TimeEnd name time at) b = at_time_end name time at b
 step (ValueFirst name time) b = at_value_first name time b
 step (Value name time negative digits magnitude) b = at_value name time negative digits magnitude b
 step (ValueEnd name time value) b = at_value_end name time value b
-step (Control at) b = at_control at b
+step Control b = at_control b
+step (QueryFront at) b = at_query_front at b
+step (FlushEnd at) b = at_flush_end at b
 step LengthFirst b = at_length_first b
 step (Length n) b = at_length n b
 step (Open n at) b = at_open n at b
@@ -162,7 +179,8 @@ IsValid (NameEnd name at) = at < 2
 IsValid (Time name digits time) = (digits ≤ 18) × (time < 10 ^ digits)
 IsValid (TimeEnd name time at) = at < 2
 IsValid (Value name time negative digits magnitude) = (digits ≤ 18) × (magnitude < 10 ^ digits)
-IsValid (Control at) = at < 8
+IsValid (QueryFront at) = at < 7
+IsValid (FlushEnd at) = at < 6
 IsValid (Length n) = (1 ≤ n) × (n ≤ 525)
 IsValid (Open n at) = (14 ≤ n) × (n ≤ 525) × (at < 12)
 IsValid (Close metric at) = at < 3
@@ -208,8 +226,10 @@ Completes (ValueFirst name time) bytes m = (value : ℤ) × IsValueLine bytes va
 Completes (Value name time negative count read) bytes m = (digits : List ℕ) × (n : ℕ) × DigitsLeft count read digits n
     × (bytes ≡ digits ++ 13 ∷ 10 ∷ []) × (m ≡ Put name time (if negative then (pos 0 -ℤ pos n) else pos n))
 Completes (ValueEnd name time value) bytes m = (bytes ≡ 10 ∷ []) × (m ≡ Put name time value)
-Completes (Control at) bytes m = (digits : List ℕ) × (behind : List ℕ) × (metric : List ℕ) × (n : ℕ) × IsLength digits n × IsQueryEnd n behind metric
+Completes Control bytes m = Spells (43 ∷ 33 ∷ bytes) m
+Completes (QueryFront at) bytes m = (digits : List ℕ) × (behind : List ℕ) × (metric : List ℕ) × (n : ℕ) × IsLength digits n × IsQueryEnd n behind metric
     × (bytes ≡ drop at query_mark ++ (digits ++ behind)) × (m ≡ Query metric)
+Completes (FlushEnd at) bytes m = (bytes ≡ drop at flush_mark) × (m ≡ Flush)
 Completes LengthFirst bytes m = (digits : List ℕ) × (behind : List ℕ) × (metric : List ℕ) × (n : ℕ) × IsLength digits n × IsQueryEnd n behind metric
     × (bytes ≡ digits ++ behind) × (m ≡ Query metric)
 Completes (Length read) bytes m = (digits : List ℕ) × (behind : List ℕ) × (metric : List ℕ) × AllByRecursion IsDigit digits

@@ -9,6 +9,8 @@ pub enum Message {
     Put { name: Bytes, time: u64, value: i64 },
     /// The points of each series of this metric.
     Query { metric: Bytes },
+    /// Save all points.
+    Flush,
 }
 
 /// Why no message was read.

@@ -1,6 +1,6 @@
 //! Where within a message a reader is, byte by byte.
 ghost use Rattle.std.specs.Prelude.{◌≡◌, IfOk};
-ghost use Rattle.ak_resp.specs.Machine.{is_start, is_digit, is_name_byte, is_metric_byte, with_digit, value_of, read_text, at_start, at_first, at_name, at_name_end, at_time, at_time_end, at_value_first, at_value, at_value_end, at_control, at_length_first, at_length, at_open, at_metric, at_close, step};
+ghost use Rattle.ak_resp.specs.Machine.{is_start, is_digit, is_name_byte, is_metric_byte, with_digit, value_of, read_text, at_start, at_first, at_name, at_name_end, at_time, at_time_end, at_value_first, at_value, at_value_end, at_control, at_query_front, at_flush_end, at_length_first, at_length, at_open, at_metric, at_close, step};
 
 use crate::message::Message;
 use ak_base::Bytes;
@@ -68,8 +68,14 @@ pub enum Spot {
         time: u64,
         value: i64,
     },
-    /// Behind `+!`, within `query`, CR, LF and `$`.
-    Control {
+    /// Behind `+!`.
+    Control,
+    /// Behind `+!q`, within `uery`, CR, LF and `$`.
+    QueryFront {
+        at: usize,
+    },
+    /// Behind `+!f`, within `lush`, CR and LF.
+    FlushEnd {
         at: usize,
     },
     /// Before the first digit of the text's length.
@@ -142,7 +148,9 @@ impl Spot {
                 magnitude,
             } => Ok(at_value(name, time, negative, digits, magnitude, byte)),
             Spot::ValueEnd { name, time, value } => Ok(at_value_end(name, time, value, byte)),
-            Spot::Control { at } => Ok(at_control(at, byte)),
+            Spot::Control => Ok(at_control(byte)),
+            Spot::QueryFront { at } => Ok(at_query_front(at, byte)),
+            Spot::FlushEnd { at } => Ok(at_flush_end(at, byte)),
             Spot::LengthFirst => Ok(at_length_first(byte)),
             Spot::Length { length } => Ok(at_length(length, byte)),
             Spot::Open { length, at } => Ok(at_open(alloc, length, at, byte)),
@@ -222,7 +230,7 @@ fn at_first(alloc: Global, byte: u8) -> Result<Outcome, AllocError>
     ensures { IfOk result (λ o. o ≡ at_first byte) }
 {
     if byte == b'!' {
-        Ok(Outcome::Going(Spot::Control { at: 0 }))
+        Ok(Outcome::Going(Spot::Control))
     } else if is_name_byte(byte) && byte != b' ' {
         let mut name = Bytes::new(alloc);
         name.push(alloc, byte)?;
@@ -357,13 +365,35 @@ fn at_value_end(name: Bytes, time: u64, value: i64, byte: u8) -> Outcome
     }
 }
 
-fn at_control(at: usize, byte: u8) -> Outcome
-    ensures { result ≡ at_control at byte }
+fn at_control(byte: u8) -> Outcome
+    ensures { result ≡ at_control byte }
 {
-    match read_text(b"query\r\n$", at, byte) {
+    if byte == b'q' {
+        Outcome::Going(Spot::QueryFront { at: 0 })
+    } else if byte == b'f' {
+        Outcome::Going(Spot::FlushEnd { at: 0 })
+    } else {
+        Outcome::Refused
+    }
+}
+
+fn at_query_front(at: usize, byte: u8) -> Outcome
+    ensures { result ≡ at_query_front at byte }
+{
+    match read_text(b"uery\r\n$", at, byte) {
         TextRead::Wrong => Outcome::Refused,
-        TextRead::On(at) => Outcome::Going(Spot::Control { at }),
+        TextRead::On(at) => Outcome::Going(Spot::QueryFront { at }),
         TextRead::Done => Outcome::Going(Spot::LengthFirst),
+    }
+}
+
+fn at_flush_end(at: usize, byte: u8) -> Outcome
+    ensures { result ≡ at_flush_end at byte }
+{
+    match read_text(b"lush\r\n", at, byte) {
+        TextRead::Wrong => Outcome::Refused,
+        TextRead::On(at) => Outcome::Going(Spot::FlushEnd { at }),
+        TextRead::Done => Outcome::Whole(Message::Flush),
     }
 }
 

@@ -10,20 +10,26 @@ const PUT: &[u8] = b"+cpu host=a\r\n:100\r\n:-5\r\n";
 
 const QUERY: &[u8] = b"+!query\r\n$16\r\n{\"select\":\"cpu\"}\r\n";
 
+const FLUSH: &[u8] = b"+!flush\r\n";
+
 fn is_put(message: &Message, wanted: &[u8], at: u64, units: i64) -> bool {
     match message {
         Message::Put { name, time, value } => {
             name.as_slice() == wanted && *time == at && *value == units
         }
-        Message::Query { .. } => false,
+        Message::Query { .. } | Message::Flush => false,
     }
 }
 
 fn is_query(message: &Message, wanted: &[u8]) -> bool {
     match message {
-        Message::Put { .. } => false,
+        Message::Put { .. } | Message::Flush => false,
         Message::Query { metric } => metric.as_slice() == wanted,
     }
+}
+
+fn is_flush(message: &Message) -> bool {
+    matches!(message, Message::Flush)
 }
 
 /// How many bytes of a stream are read up to its fault, and with it. None where no fault is answered.
@@ -53,6 +59,7 @@ fn reads_whole(rt: HostRuntime) -> Result<(), Fail> {
     let alloc = rt.alloc();
     let mut stream = Bytes::new(alloc);
     stream.extend(alloc, PUT)?;
+    stream.extend(alloc, FLUSH)?;
     stream.extend(alloc, QUERY)?;
     let piece = stream.as_slice();
     let mut reader = Resp::new(alloc)?;
@@ -61,8 +68,12 @@ fn reads_whole(rt: HostRuntime) -> Result<(), Fail> {
     assert!(rt; is_put(&first, b"cpu host=a", 100, -5));
     assert_eq!(rt; at, PUT.len());
     assert!(rt; !reader.inside());
-    let second = reader.feed(alloc, piece, &mut at)?.ok_or("no query")?;
-    assert!(rt; is_query(&second, b"cpu"));
+    let second = reader.feed(alloc, piece, &mut at)?.ok_or("no flush")?;
+    assert!(rt; is_flush(&second));
+    assert_eq!(rt; at, PUT.len() + FLUSH.len());
+    assert!(rt; !reader.inside());
+    let third = reader.feed(alloc, piece, &mut at)?.ok_or("no query")?;
+    assert!(rt; is_query(&third, b"cpu"));
     assert_eq!(rt; at, piece.len());
     assert!(rt; reader.feed(alloc, piece, &mut at)?.is_none());
     Ok(())
@@ -93,13 +104,56 @@ fn reads_each_byte(rt: HostRuntime) -> Result<(), Fail> {
 }
 
 #[test]
+fn reads_a_flush_in_two_pieces(rt: HostRuntime) -> Result<(), Fail> {
+    let alloc = rt.alloc();
+    for cut in 1..FLUSH.len() {
+        let (front, behind) = FLUSH.split_at(cut);
+        let mut reader = Resp::new(alloc)?;
+        let mut at = 0;
+        assert!(rt; reader.feed(alloc, front, &mut at)?.is_none());
+        assert_eq!(rt; at, cut);
+        assert!(rt; reader.inside());
+        let mut at = 0;
+        let message = reader.feed(alloc, behind, &mut at)?.ok_or("no flush")?;
+        assert!(rt; is_flush(&message));
+        assert_eq!(rt; at, behind.len());
+        assert!(rt; !reader.inside());
+    }
+    Ok(())
+}
+
+#[test]
+fn reads_a_flush_byte_by_byte(rt: HostRuntime) -> Result<(), Fail> {
+    let alloc = rt.alloc();
+    let mut reader = Resp::new(alloc)?;
+    for (index, byte) in FLUSH.iter().enumerate() {
+        let mut at = 0;
+        match reader.feed(alloc, &[*byte], &mut at)? {
+            Some(message) => {
+                assert_eq!(rt; index + 1, FLUSH.len());
+                assert!(rt; is_flush(&message));
+            }
+            None => {
+                assert!(rt; index + 1 < FLUSH.len());
+                assert!(rt; reader.inside());
+            }
+        }
+    }
+    assert!(rt; !reader.inside());
+    Ok(())
+}
+
+#[test]
 fn faults(rt: HostRuntime) -> Result<(), Fail> {
     let alloc = rt.alloc();
-    let streams: [(&[u8], usize); 14] = [
+    let streams: [(&[u8], usize); 17] = [
         (b"?", 1),
         (b"+a,b\r\n", 3),
         (b"+ a\r\n", 2),
         (b"+!x", 3),
+        (b"+!flusk", 7),
+        (b"+!flush\n", 8),
+        (b"+!flush\r\r", 9),
         (b"+a\n:1", 3),
         (b"+a\r\n:\r\n", 6),
         (b"+a\r\n:1234567890123456789\r\n", 24),

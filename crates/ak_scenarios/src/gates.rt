@@ -8,7 +8,7 @@ use std::alloc::Global;
 use std::test::Fail;
 
 // Tests ask first whether a block is there, so that no fact of the sizes has to last from call to call.
-fn is_there<D: Disk>(disk: &D, index: u32) -> bool
+pub(crate) fn is_there<D: Disk>(disk: &D, index: u32) -> bool
     ensures { result ≡ true → (0 < length (D.state disk.now).sizes) × (index < slice_index (D.state disk.now).sizes 0) }
 {
     0 < disk.files() && index < disk.blocks(0)

@@ -21,7 +21,7 @@ fn piece(alloc: Global, port: u32, bytes: &[u8]) -> Result<MemTurn, AllocError>
 }
 
 // The stream on port 1, in pieces of this size.
-fn cut(alloc: Global, stream: &[u8], size: usize) -> Result<Vec<MemTurn>, AllocError>
+pub(crate) fn cut(alloc: Global, stream: &[u8], size: usize) -> Result<Vec<MemTurn>, AllocError>
     requires least { 1 ≤ size }
     requires most { size ≤ 4096 }
     ensures { IfOk result (λ turns. All IsMemTurn turns.items) }
@@ -140,7 +140,7 @@ fn an_unknown_message_is_refused_once(rt: HostRuntime) -> Result<(), Fail> {
     answers(
         &rt,
         rt.alloc(),
-        b"+cpu\r\n:1\r\n:1\r\n+!flush\r\n+!query\r\n$16\r\n{\"select\":\"cpu\"}\r\n",
+        b"+cpu\r\n:1\r\n:1\r\n+!flusk\r\n+!query\r\n$16\r\n{\"select\":\"cpu\"}\r\n",
         b"-ERR 29 not built\r\n",
     )
 }
@@ -209,13 +209,19 @@ fn a_word_is_no_command(rt: HostRuntime) -> Result<(), Fail> {
 #[test]
 fn each_failed_call_stops_the_run(rt: HostRuntime) -> Result<(), Fail> {
     let alloc = rt.alloc();
-    // the calls are the turn with the query, its answer, the turn Done, and the line of the status
-    for fails in 0..3 {
+    // 7 calls of the disk make the store and view 1; then come the turn with the query, its answer and the turn Done, and
+    // 4 calls take view 2
+    for fails in 0..14 {
         let turns = cut(alloc, b"+!query\r\n$14\r\n{\"select\":\"a\"}\r\n", 4096)?;
         let ended = call(alloc, &[], turns.as_slice(), &[fails])?;
-        assert_eq!(rt; ended.status, 4);
-        assert_eq!(rt; ended.console.as_slice(), b"akl: port failed\n".as_slice());
-        let told: &[u8] = if fails < 2 { b"" } else { b"$0\r\n\r\n" };
+        let (status, line): (u8, &[u8]) = if fails < 7 || 10 <= fails {
+            (3, b"akl: disk failed\n")
+        } else {
+            (4, b"akl: port failed\n")
+        };
+        assert_eq!(rt; ended.status, status, "at call {fails}");
+        assert_eq!(rt; ended.console.as_slice(), line);
+        let told: &[u8] = if fails < 9 { b"" } else { b"$0\r\n\r\n" };
         assert_eq!(rt; ended.told.as_slice(), told);
     }
     Ok(())

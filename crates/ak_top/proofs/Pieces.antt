@@ -1,21 +1,30 @@
 -- What a piece gives, from how far its session has come.
-use Rattle.std.proofs.Common.{◌≡◌, ◌↔◌, ℕ, ◌+◌, Bool, true, false, not, ◌&&◌, ◌==◌, if◌then◌else◌, List, [], ◌∷◌, ◌++◌, take, drop, take-append-drop, refl, sym, ◌∙◌, ap, subst, append_assoc}
+use Rattle.std.proofs.Common.{◌≡◌, ◌↔◌, ℕ, ◌+◌, ◌≤◌, ◌<◌, ◌^◌, Bool, true, false, not, ◌&&◌, ◌==◌, if◌then◌else◌, List, [], ◌∷◌, ◌++◌, length, take, drop, take-append-drop, refl, sym, ◌∙◌, ap, subst, append_assoc, arith}
 use Rattle.std.proofs.lemmas.List.{append-nil}
 use Rattle.ak_base.specs.declared.refusal.Refusal.TheVariants.{NotBuilt}
+use Rattle.ak_host.specs.Files.{Files}
 use Rattle.ak_host.specs.Marks.{Mark, Telling, told_to}
+use Rattle.ak_host.specs.Moments.{HostState}
 use Rattle.ak_resp.specs.declared.message.Message.{Message}
+use Rattle.ak_resp.specs.declared.message.Message.TheVariants.{Put, Query, Flush}
 use Rattle.ak_resp.specs.declared.resp.Resp.{Resp}
-use Rattle.ak_resp.specs.Grammar.{IsOpen, SpellsRow, HasFaultAt}
+use Rattle.ak_resp.specs.Grammar.{IsName, IsOpen, Spells, SpellsRow, HasFaultAt}
 use Rattle.ak_resp.specs.Standing.{StandsFor, is_faulted}
 use Rattle.ak_resp.proofs.Readings.{reads_on}
 use Rattle.ak_resp.proofs.Readers.{fault_stays}
+use Rattle.ak_view.specs.Views.{View}
+use Rattle.ak_view.specs.Views.{StandsFor as IsLeft}
+use Rattle.ak_top.specs.declared.keeper.Keeper.{Keeper}
 use Rattle.ak_top.specs.declared.node.Session.{Session}
-use Rattle.ak_top.specs.declared.store.Series.{Series}
 use Rattle.ak_top.specs.Calls.{Told}
-use Rattle.ak_top.specs.Pieces.{Begun, ReadsOn, InPiece, AfterPiece}
-use Rattle.ak_top.specs.Replies.{reply_to, replies_to, refusal_reply}
-use Rattle.ak_top.specs.Run.{PieceGives}
-use Rattle.ak_top.specs.Store.{series_after, series_after_all}
+use Rattle.ak_top.specs.Contents.{Content, views_of, after, after_all}
+use Rattle.ak_top.specs.Keeping.{IsIn, Confirms}
+use Rattle.ak_top.specs.Pieces.{IsAllowed, Begun, ReadsOn, InPiece, LeavesInPiece, AfterPiece, WearsPiece}
+use Rattle.ak_top.specs.Replies.{Reply, reply_to, replies_to, refusal_reply, bytes_at}
+use Rattle.ak_top.specs.Run.{PieceGives, to}
+use Rattle.ak_top.specs.Standing.{Holds}
+use Rattle.ak_top.proofs.Growing.{after_all-append, replies_to-append, bytes_at-append, stays_all, rises_all, worn_stays, confirms_all_within, within_more, ports_are, at_one}
+use Rattle.ak_top.proofs.Prefixes.{confirms_front, confirms_none}
 
 -- rows that are open
 
@@ -27,6 +36,24 @@ open_front row k is = (drop k row ++ is.0, is.1, subst (λ bytes. SpellsRow byte
 
 pub closed_by : (row : List ℕ) (place : ℕ) → HasFaultAt row place → ¬ (IsOpen row)
 closed_by row place fault is = fault.closed (open_front row (place + 1) is)
+
+-- the name of a message is short
+
+allowed_by : (bytes : List ℕ) (m : Message) → Spells bytes m → IsAllowed m
+allowed_by bytes (Put name time value) spells = short name spells.2
+  where
+    short : (name : List ℕ) → IsName name → length name < 2 ^ 16
+    short [] is = absurd is
+    short (b ∷ bs) is = omega (arith, is.4)
+allowed_by bytes (Query metric) spells = tt
+allowed_by bytes Flush spells = tt
+
+allowed_last : (bytes : List ℕ) (ms : List Message) (m : Message) → SpellsRow bytes (ms ++ m ∷ []) → IsAllowed m
+allowed_last bytes [] m row = allowed_by row.0 m row.3
+allowed_last bytes (x ∷ ms) m row = allowed_last row.1 ms m row.4
+
+pub allowed : (row : List ℕ) (ms : List Message) (m : Message) (r : Resp) → StandsFor r row (ms ++ m ∷ []) → IsAllowed m
+allowed row ms m r stands = allowed_last stands.splits.front ms m stands.splits.spelled
 
 -- whether a fault was met between two readers
 abbrev newly : Bool → Bool → Bool
@@ -47,12 +74,13 @@ newly_is r s row bytes ms ns false false was_is is_is first last =
     false_true : false ≡ true → ⊥
     false_true e = cc
 
-abbrev whole_reply : Begun → List Message → Resp → List ℕ
-whole_reply begun acting last = replies_to begun.series acting ++ (if newly (is_faulted begun.reader) (is_faulted last) then refusal_reply NotBuilt else [])
+-- the reply to a fault
+abbrev fault_reply : Bool → Bool → List Reply
+fault_reply news worn = if news && not worn then to 1 (refusal_reply NotBuilt) else []
 
-pub piece_gives : (series : List Series) (r s : Resp) (row bytes : List ℕ) (ms acting : List Message) → StandsFor r row ms → StandsFor s (row ++ bytes) (ms ++ acting)
-    → PieceGives series row bytes (series_after_all series acting) (replies_to series acting ++ (if newly (is_faulted r) (is_faulted s) then refusal_reply NotBuilt else []))
-piece_gives series r s row bytes ms acting first last = record {
+pub piece_gives : (content : Content) (r s : Resp) (row bytes : List ℕ) (ms acting : List Message) → StandsFor r row ms → StandsFor s (row ++ bytes) (ms ++ acting)
+    → PieceGives content row bytes (after_all content acting) (replies_to content acting ++ fault_reply (newly (is_faulted r) (is_faulted s)) (after_all content acting).worn)
+piece_gives content r s row bytes ms acting first last = record {
   before = ms;
   acting = acting;
   rest = first.rest;
@@ -62,19 +90,8 @@ piece_gives series r s row bytes ms acting first last = record {
   fault = newly (is_faulted r) (is_faulted s);
   fault_is = newly_is r s row bytes ms (ms ++ acting) (is_faulted r) (is_faulted s) refl refl first last;
   next_is = refl;
-  reply_is = refl;
+  replies_are = refl;
 }
-
--- messages one after another
-
-pub series_after_all-append : (series : List Series) (ms ns : List Message) → series_after_all series (ms ++ ns) ≡ series_after_all (series_after_all series ms) ns
-series_after_all-append series [] ns = refl
-series_after_all-append series (m ∷ ms) ns = series_after_all-append (series_after series m) ms ns
-
-pub replies_to-append : (series : List Series) (ms ns : List Message) → replies_to series (ms ++ ns) ≡ replies_to series ms ++ replies_to (series_after_all series ms) ns
-replies_to-append series [] ns = refl
-replies_to-append series (m ∷ ms) ns =
-    ap (λ (l : List ℕ). reply_to series m ++ l) (replies_to-append (series_after series m) ms ns) ∙ sym (append_assoc (reply_to series m) _ _)
 
 -- tellings one after another
 
@@ -104,58 +121,109 @@ told_more {one} {two} {three} {port} {x} {y} first second = record {
       ∙ both_told (port == at) x y;
 }
 
--- as the piece begins
-pub reads_nothing : (begun : Begun) (session : Session) → session.reader ≡ begun.reader → session.faulted ≡ is_faulted session.reader → ReadsOn begun begun.series session begun.stream begun.mark
-reads_nothing begun session reader fault = record {
-  acting = [];
-  stands = subst (λ r. StandsFor r begun.stream (begun.messages ++ [])) (sym reader) (subst (StandsFor begun.reader begun.stream) (sym (append-nil begun.messages)) begun.stands);
-  series_is = refl;
-  told = told_nothing begun.mark 1;
-  fault = fault;
-  same = ap is_faulted reader;
-}
+-- ---- How far a session has come
+
+-- The reader has read the row. Of its messages these are answered and told, and more were read.
+pub record Heard (begun : Begun) (reader : Resp) (row : List ℕ) (done more : List Message) (mark : Mark) : Type 0 where
+  pub stands : StandsFor reader row (begun.messages ++ (done ++ more))
+  pub told : Told begun.mark mark 1 (bytes_at 1 (replies_to begun.content done))
+
+pub heard_all : {begun : Begun} {keeper : Keeper} {session : Session} {row : List ℕ} {mark : Mark} {host : HostState} (at : ReadsOn begun keeper session row mark host) → Heard begun session.reader row at.acting [] mark
+heard_all {begun} {keeper} {session} {row} at = record { stands = subst (λ (ms : List Message). StandsFor session.reader row (begun.messages ++ ms)) (sym (append-nil at.acting)) at.stands; told = at.told }
+
+pub record Whole (begun : Begun) (bytes : List ℕ) (done more : List Message) : Type 0 where
+  pub later : List Message
+  pub rest : List Reply
+  pub gives : PieceGives begun.content begun.stream bytes (after_all begun.content (done ++ (more ++ later))) (replies_to begun.content done ++ rest)
 
 module _ (begun : Begun) (bytes : List ℕ) where
-  -- at a moment when all that the messages so far are answered was told
-  pub in_piece : {series : List Series} {session : Session} {row : List ℕ} {mark : Mark} (more : List ℕ) → row ++ more ≡ begun.stream ++ bytes → ReadsOn begun series session row mark → InPiece begun bytes mark
-  in_piece {series} {session} {row} {mark} more whole at =
-      let on = reads_on session.reader row (begun.messages ++ at.acting) more at.stands in
-      let all = at.acting ++ on.acting in
+  -- what the whole piece gives
+  pub whole_piece : {reader : Resp} {row : List ℕ} {done more : List Message} {mark : Mark} (behind : List ℕ) → row ++ behind ≡ begun.stream ++ bytes → Heard begun reader row done more mark → Whole begun bytes done more
+  whole_piece {reader} {row} {done} {more} {mark} behind whole at =
+      let on = reads_on reader row (begun.messages ++ (done ++ more)) behind at.stands in
+      let all = done ++ (more ++ on.acting) in
+      let same : (begun.messages ++ (done ++ more)) ++ on.acting ≡ begun.messages ++ all =
+      append_assoc begun.messages (done ++ more) on.acting ∙ ap (λ (ms : List Message). begun.messages ++ ms) (append_assoc done more on.acting) in
       let last : StandsFor on.reader (begun.stream ++ bytes) (begun.messages ++ all) =
-      subst (StandsFor on.reader (begun.stream ++ bytes)) (append_assoc begun.messages at.acting on.acting)
-      (subst (λ l. StandsFor on.reader l ((begun.messages ++ at.acting) ++ on.acting)) whole on.stands) in
-      let fault = if newly (is_faulted begun.reader) (is_faulted on.reader) then refusal_reply NotBuilt else [] in
+      subst (StandsFor on.reader (begun.stream ++ bytes)) same (subst (λ l. StandsFor on.reader l ((begun.messages ++ (done ++ more)) ++ on.acting)) whole on.stands) in
+      let fault = fault_reply (newly (is_faulted begun.reader) (is_faulted on.reader)) (after_all begun.content all).worn in
       record {
-        next = series_after_all begun.series all;
-        reply = replies_to begun.series all ++ fault;
-        gives = piece_gives begun.series begun.reader on.reader begun.stream bytes begun.messages all begun.stands last;
-        part = replies_to begun.series at.acting;
-        told = at.told;
-        begins = record {
-          rest = replies_to (series_after_all begun.series at.acting) on.acting ++ fault;
-          is = ap (λ (l : List ℕ). l ++ fault) (replies_to-append begun.series at.acting on.acting) ∙ append_assoc (replies_to begun.series at.acting) _ fault;
-        };
+        later = on.acting;
+        rest = replies_to (after_all begun.content done) (more ++ on.acting) ++ fault;
+        gives = subst (PieceGives begun.content begun.stream bytes (after_all begun.content all))
+            (ap (λ (l : List Reply). l ++ fault) (replies_to-append begun.content done (more ++ on.acting)) ∙ append_assoc_replies (replies_to begun.content done) _ fault)
+            (piece_gives begun.content begun.reader on.reader begun.stream bytes begun.messages all begun.stands last);
       }
+    where
+      append_assoc_replies : (xs ys zs : List Reply) → (xs ++ ys) ++ zs ≡ xs ++ (ys ++ zs)
+      append_assoc_replies xs ys zs = append_assoc xs ys zs
+
+  abbrev pub in_whole : {done more : List Message} {mark : Mark} → Whole begun bytes done more → Told begun.mark mark 1 (bytes_at 1 (replies_to begun.content done)) → InPiece begun bytes mark
+  in_whole {done} {more} {mark} w told = record {
+    next = after_all begun.content (done ++ (more ++ w.later));
+    replies = replies_to begun.content done ++ w.rest;
+    gives = w.gives;
+    part = bytes_at 1 (replies_to begun.content done);
+    told = told;
+    begins = record { rest = bytes_at 1 w.rest; is = bytes_at-append 1 (replies_to begun.content done) w.rest };
+  }
+
+  -- a stop leaves a view that is there once the messages that were read have acted, and that isn't older than those told
+  pub leaves_whole : {done more : List Message} {mark : Mark} (w : Whole begun bytes done more) → Told begun.mark mark 1 (bytes_at 1 (replies_to begun.content done))
+      → (view : View) (disk : Files) → IsLeft view disk → IsIn view (views_of (after_all (after_all begun.content done) more)) → (after_all begun.content done).last.number ≤ view.number
+      → LeavesInPiece begun bytes mark disk
+  leaves_whole {done} {more} {mark} w told view disk left is recent = record {
+    acting = in_whole w told;
+    left = record {
+      view = view;
+      stands = left;
+      taken = subst (λ (c : Content). IsIn view (views_of c)) (sym all_same) (stays_all view _ w.later is);
+      recent = omega (arith, rises_all begun.content done, recent);
+      confirmed = λ port. subst (λ (n : ℕ). Confirms port n view.number (replies_to begun.content done ++ w.rest)) (told_same port)
+          (confirms_front port 0 view.number (replies_to begun.content done) w.rest (within_more _ view.number (replies_to begun.content done) recent (confirms_all_within begun.content done)) (confirms_none port view.number w.rest));
+    };
+  }
+    where
+      all_same : after_all begun.content (done ++ (more ++ w.later)) ≡ after_all (after_all (after_all begun.content done) more) w.later
+      all_same = after_all-append begun.content done (more ++ w.later) ∙ after_all-append (after_all begun.content done) more w.later
+
+      told_same : (port : ℕ) → length (bytes_at port (replies_to begun.content done)) + 0 ≡ length (if 1 == port then bytes_at 1 (replies_to begun.content done) else [])
+      told_same port =
+          let none : length (bytes_at port (replies_to begun.content done)) + 0 ≡ length (bytes_at port (replies_to begun.content done)) = omega arith in
+          none ∙ ap (λ (l : List ℕ). length l) (at_one port (replies_to begun.content done) (ports_are begun.content done))
+
+  pub wears_whole : {done more : List Message} → Whole begun bytes done more → (after_all (after_all begun.content done) more).worn ≡ true → WearsPiece begun bytes
+  wears_whole {done} {more} w worn = record {
+    next = after_all begun.content (done ++ (more ++ w.later));
+    replies = replies_to begun.content done ++ w.rest;
+    gives = w.gives;
+    worn = ap (λ (c : Content). c.worn) (after_all-append begun.content done (more ++ w.later) ∙ after_all-append (after_all begun.content done) more w.later) ∙ worn_stays _ w.later worn;
+  }
+
+one_at : (r : Reply) → r.port ≡ 1 → r.bytes ≡ (if r.port == 1 then r.bytes else []) ++ []
+one_at r is = subst (λ (q : ℕ). r.bytes ≡ (if q == 1 then r.bytes else []) ++ []) (sym is) (sym (append-nil r.bytes))
+
+pub answered_more : (c : Content) (ms : List Message) (m : Message) → bytes_at 1 (replies_to c ms) ++ (reply_to (after_all c ms) m).bytes ≡ bytes_at 1 (replies_to c (ms ++ m ∷ []))
+answered_more c ms m =
+    ap (λ (l : List ℕ). bytes_at 1 (replies_to c ms) ++ l) (one_at (reply_to (after_all c ms) m) (ports_are (after_all c ms) (m ∷ [])).0)
+    ∙ sym (bytes_at-append 1 (replies_to c ms) (replies_to (after_all c ms) (m ∷ [])))
+    ∙ ap (bytes_at 1) (sym (replies_to-append c ms (m ∷ [])))
 
 -- one message more, and its answer
-pub reads_message : {begun : Begun} {series next : List Series} {session later : Session} {row longer : List ℕ} {mark after : Mark} (m : Message) → ReadsOn begun series session row mark
+pub reads_message : {begun : Begun} {keeper next : Keeper} {session later : Session} {row longer : List ℕ} {mark after_mark : Mark} {host after_host : HostState} (m : Message)
+    (at : ReadsOn begun keeper session row mark host)
     → ((messages : List Message) → StandsFor session.reader row messages → StandsFor later.reader longer (messages ++ m ∷ []))
     → is_faulted session.reader ≡ false → is_faulted later.reader ≡ false → later.faulted ≡ session.faulted
-    → next ≡ series_after series m → Told mark after 1 (reply_to series m)
-    → ReadsOn begun next later longer after
-reads_message {begun} {series} {next} {session} {later} {row} {longer} {mark} {after} m at reads was is flag acted told = record {
+    → Holds (after (after_all begun.content at.acting) m) next after_host → Told mark after_mark 1 (reply_to (after_all begun.content at.acting) m).bytes
+    → ReadsOn begun next later longer after_mark after_host
+reads_message {begun} {keeper} {next} {session} {later} {row} {longer} {mark} {after_mark} {host} {after_host} m at reads was is flag holds told = record {
   acting = at.acting ++ m ∷ [];
   stands = subst (StandsFor later.reader longer) (append_assoc begun.messages at.acting (m ∷ [])) (reads (begun.messages ++ at.acting) at.stands);
-  series_is = acted ∙ ap (λ ss. series_after ss m) at.series_is ∙ sym (series_after_all-append begun.series at.acting (m ∷ []));
-  told = subst (λ bytes. Told begun.mark after 1 bytes) answered (told_more at.told told);
+  holds = subst (λ (c : Content). Holds c next after_host) (sym (after_all-append begun.content at.acting (m ∷ []))) holds;
+  told = subst (λ bytes. Told begun.mark after_mark 1 bytes) (answered_more begun.content at.acting m) (told_more at.told told);
   fault = flag ∙ at.fault ∙ was ∙ sym is;
   same = is ∙ sym was ∙ at.same;
 }
-  where
-    answered : replies_to begun.series at.acting ++ reply_to series m ≡ replies_to begun.series (at.acting ++ m ∷ [])
-    answered = ap (λ (ss : List Series). replies_to begun.series at.acting ++ reply_to ss m) at.series_is
-        ∙ ap (λ (l : List ℕ). replies_to begun.series at.acting ++ l) (sym (append-nil (reply_to (series_after_all begun.series at.acting) m)))
-        ∙ sym (replies_to-append begun.series at.acting (m ∷ []))
 
 no_news : (was is : Bool) → is ≡ was → newly was is ≡ false
 no_news true true e = refl
@@ -168,17 +236,27 @@ news true is e f = sym e
 news false true e f = refl
 news false false e f = f
 
+no_reply : (b worn : Bool) → b ≡ false → fault_reply b worn ≡ []
+no_reply true worn e = cc
+no_reply false worn e = refl
+
+some_reply : (b worn : Bool) → b ≡ true → worn ≡ false → fault_reply b worn ≡ to 1 (refusal_reply NotBuilt)
+some_reply true true e f = cc
+some_reply true false e f = refl
+some_reply false worn e f = cc
+
 -- the whole piece was read without a fault of its own
-pub read_all : {begun : Begun} {series : List Series} {session later : Session} {row : List ℕ} {mark : Mark} (bytes : List ℕ) → ReadsOn begun series session row mark
+pub read_all : {begun : Begun} {keeper : Keeper} {session later : Session} {row : List ℕ} {mark : Mark} {host : HostState} (bytes : List ℕ) → ReadsOn begun keeper session row mark host
     → ((messages : List Message) → StandsFor session.reader row messages → StandsFor later.reader (begun.stream ++ bytes) messages)
     → is_faulted later.reader ≡ is_faulted session.reader → later.faulted ≡ session.faulted
-    → AfterPiece begun bytes series later mark
-read_all {begun} {series} {session} {later} {row} {mark} bytes at reads same flag = record {
-  reply = replies_to begun.series at.acting;
-  gives = subst (λ reply. PieceGives begun.series begun.stream bytes series reply) no_fault
-      (subst (λ next. PieceGives begun.series begun.stream bytes next (whole_reply begun at.acting later.reader)) (sym at.series_is)
-      (piece_gives begun.series begun.reader later.reader begun.stream bytes begun.messages at.acting begun.stands last));
+    → AfterPiece begun bytes keeper later mark host
+read_all {begun} {keeper} {session} {later} {row} {mark} {host} bytes at reads same flag = record {
+  next = after_all begun.content at.acting;
+  replies = replies_to begun.content at.acting;
+  gives = subst (PieceGives begun.content begun.stream bytes (after_all begun.content at.acting)) no_fault
+      (piece_gives begun.content begun.reader later.reader begun.stream bytes begun.messages at.acting begun.stands last);
   told = at.told;
+  holds = at.holds;
   messages = begun.messages ++ at.acting;
   stands = last;
   fault = flag ∙ at.fault ∙ sym same;
@@ -187,22 +265,24 @@ read_all {begun} {series} {session} {later} {row} {mark} bytes at reads same fla
     last : StandsFor later.reader (begun.stream ++ bytes) (begun.messages ++ at.acting)
     last = reads (begun.messages ++ at.acting) at.stands
 
-    no_fault : replies_to begun.series at.acting ++ (if newly (is_faulted begun.reader) (is_faulted later.reader) then refusal_reply NotBuilt else []) ≡ replies_to begun.series at.acting
-    no_fault = ap (λ (b : Bool). replies_to begun.series at.acting ++ (if b then refusal_reply NotBuilt else [])) (no_news _ _ (same ∙ at.same)) ∙ append-nil (replies_to begun.series at.acting)
+    no_fault : replies_to begun.content at.acting ++ fault_reply (newly (is_faulted begun.reader) (is_faulted later.reader)) (after_all begun.content at.acting).worn ≡ replies_to begun.content at.acting
+    no_fault = ap (λ (l : List Reply). replies_to begun.content at.acting ++ l) (no_reply _ _ (no_news _ _ (same ∙ at.same))) ∙ append-nil (replies_to begun.content at.acting)
 
 -- a fault was met, and told
-pub read_fault : {begun : Begun} {series : List Series} {session later : Session} {row longer : List ℕ} {mark after : Mark} (bytes more : List ℕ) → ReadsOn begun series session row mark
+pub read_fault : {begun : Begun} {keeper : Keeper} {session later : Session} {row longer : List ℕ} {mark after_mark : Mark} {host after_host : HostState} (bytes more : List ℕ) → (at : ReadsOn begun keeper session row mark host)
     → ((messages : List Message) → StandsFor session.reader row messages → StandsFor later.reader longer messages)
     → longer ++ more ≡ begun.stream ++ bytes
     → is_faulted session.reader ≡ false → is_faulted later.reader ≡ true → later.faulted ≡ true
-    → Told mark after 1 (refusal_reply NotBuilt)
-    → AfterPiece begun bytes series later after
-read_fault {begun} {series} {session} {later} {row} {longer} {mark} {after} bytes more at reads whole was is flag told = record {
-  reply = replies_to begun.series at.acting ++ refusal_reply NotBuilt;
-  gives = subst (λ reply. PieceGives begun.series begun.stream bytes series reply) fault
-      (subst (λ next. PieceGives begun.series begun.stream bytes next (whole_reply begun at.acting later.reader)) (sym at.series_is)
-      (piece_gives begun.series begun.reader later.reader begun.stream bytes begun.messages at.acting begun.stands last));
-  told = told_more at.told told;
+    → Told mark after_mark 1 (refusal_reply NotBuilt)
+    → Holds (after_all begun.content at.acting) keeper after_host
+    → AfterPiece begun bytes keeper later after_mark after_host
+read_fault {begun} {keeper} {session} {later} {row} {longer} {mark} {after_mark} {host} {after_host} bytes more at reads whole was is flag told holds = record {
+  next = after_all begun.content at.acting;
+  replies = replies_to begun.content at.acting ++ to 1 (refusal_reply NotBuilt);
+  gives = subst (PieceGives begun.content begun.stream bytes (after_all begun.content at.acting)) fault
+      (piece_gives begun.content begun.reader later.reader begun.stream bytes begun.messages at.acting begun.stands last);
+  told = subst (λ b. Told begun.mark after_mark 1 b) answered (told_more at.told told);
+  holds = holds;
   messages = begun.messages ++ at.acting;
   stands = last;
   fault = flag ∙ sym is;
@@ -211,16 +291,9 @@ read_fault {begun} {series} {session} {later} {row} {longer} {mark} {after} byte
     last : StandsFor later.reader (begun.stream ++ bytes) (begun.messages ++ at.acting)
     last = subst (λ l. StandsFor later.reader l (begun.messages ++ at.acting)) whole (fault_stays later.reader longer more (begun.messages ++ at.acting) is (reads (begun.messages ++ at.acting) at.stands))
 
-    fault : replies_to begun.series at.acting ++ (if newly (is_faulted begun.reader) (is_faulted later.reader) then refusal_reply NotBuilt else []) ≡ replies_to begun.series at.acting ++ refusal_reply NotBuilt
-    fault = ap (λ (b : Bool). replies_to begun.series at.acting ++ (if b then refusal_reply NotBuilt else [])) (news _ _ (sym at.same ∙ was) is)
+    fault : replies_to begun.content at.acting ++ fault_reply (newly (is_faulted begun.reader) (is_faulted later.reader)) (after_all begun.content at.acting).worn ≡ replies_to begun.content at.acting ++ to 1 (refusal_reply NotBuilt)
+    fault = ap (λ (l : List Reply). replies_to begun.content at.acting ++ l) (some_reply _ _ (news _ _ (sym at.same ∙ was) is) at.holds.not_worn)
 
--- what was answered is within the answer
-pub after_in_piece : {begun : Begun} {bytes : List ℕ} {series : List Series} {session : Session} {mark : Mark} → AfterPiece begun bytes series session mark → InPiece begun bytes mark
-after_in_piece {begun} {bytes} {series} {session} {mark} after = record {
-  next = series;
-  reply = after.reply;
-  gives = after.gives;
-  part = after.reply;
-  told = after.told;
-  begins = record { rest = []; is = sym (append-nil after.reply) };
-}
+    answered : bytes_at 1 (replies_to begun.content at.acting) ++ refusal_reply NotBuilt ≡ bytes_at 1 (replies_to begun.content at.acting ++ to 1 (refusal_reply NotBuilt))
+    answered = ap (λ (l : List ℕ). bytes_at 1 (replies_to begun.content at.acting) ++ l) (sym (append-nil (refusal_reply NotBuilt)))
+        ∙ sym (bytes_at-append 1 (replies_to begun.content at.acting) (to 1 (refusal_reply NotBuilt)))

@@ -1,22 +1,34 @@
--- Where the series of a name stands, and where a name's metric ends.
-use Rattle.std.proofs.Common.{◌≡◌, ℕ, ◌+◌, ◌<◌, Bool, true, false, cond, nat_lt, List, [], ◌∷◌, ◌++◌, length, take, Option, Some, None, slice_index_or, slice_set, refl, sym, ◌∙◌, ap, subst, add-one, arith, rules, Result, Ok, Err, IfOk, OnOk, IsSome, IsNone}
-use Rattle.std.specs.List.{position_from, position_or_len, position, before_first}
-use Rattle.std.proofs.lemmas.Bool.{ltb-false}
-use Rattle.std.proofs.lemmas.List.{take_all}
+-- Where the series of a name stands, and the bytes that a point more takes.
+use Rattle.std.proofs.Common.{◌≡◌, ℕ, ◌+◌, ◌<◌, Bool, true, false, cond, List, [], ◌∷◌, ◌++◌, length, Option, Some, None, slice_index_or, slice_set, refl, sym, ◌∙◌, ap, subst, add-one, length-append, arith, Result, Ok, Err, OnOk}
+use Rattle.std.specs.List.{position_from, position}
 use Rattle.std.proofs.lemmas.Iterator.Adapters.{position_from-zero}
+use Rattle.ak_base.specs.declared.limits.Limits.{Limits}
 use Rattle.ak_base.specs.declared.point.Point.{Point}
-use Rattle.ak_top.specs.declared.store.Series.{Series}
-use Rattle.ak_top.specs.Store.{last_time, is_named, last_of, with_point, late_behind, late_of, after_put}
+use Rattle.ak_view.specs.declared.series.Series.{Series}
+use Rattle.ak_view.specs.Payload.{series_bytes, need_of}
+use Rattle.ak_top.specs.Store.{last_time, is_named, last_of, with_point, late_behind, late_of}
+use Rattle.ak_top.proofs.Sizes.{length_series, size_of, need_is}
 
 -- the series with a point more
 abbrev pub grown : Series → Point → Series
 grown s p = record { name = s.name; points = s.points ++ p ∷ [] }
+
+length_grown : (s : Series) (p : Point) → length (series_bytes (grown s p)) ≡ length (series_bytes s) + 16
+length_grown s p = omega (arith, length_series s, length_series (grown s p), length-append s.points (p ∷ []))
+
+-- a series of one point
+abbrev pub begun : List ℕ → Point → Series
+begun name p = record { name = name; points = p ∷ [] }
+
+length_new : (name : List ℕ) (p : Point) → size_of (begun name p ∷ []) ≡ 22 + length name
+length_new name p = omega (arith, length_series (begun name p))
 
 -- the series of this name stands in this place
 pub record Found (name : List ℕ) (ss : List Series) (at : ℕ) : Type 0 where
   pub within : at < length ss
   pub last : (d : Series) → last_of ss name ≡ last_time (slice_index_or ss at d).points
   pub put : (p : Point) (d : Series) → with_point ss name p ≡ slice_set ss at (grown (slice_index_or ss at d) p)
+  pub size : (p : Point) → size_of (with_point ss name p) ≡ size_of ss + 16
 
 pub record FoundFrom (name : List ℕ) (ss : List Series) (from i : ℕ) : Type 0 where
   pub at : ℕ
@@ -26,12 +38,18 @@ pub record FoundFrom (name : List ℕ) (ss : List Series) (from i : ℕ) : Type 
 pub record Missing (name : List ℕ) (ss : List Series) : Type 0 where
   pub last : last_of ss name ≡ None
   pub put : (p : Point) → with_point ss name p ≡ ss ++ record { name = name; points = p ∷ [] } ∷ []
+  pub size : (p : Point) → size_of (with_point ss name p) ≡ size_of ss + 22 + length name
 
 found_here : (name : List ℕ) (s : Series) (ss : List Series) (from i : ℕ) → is_named name s ≡ true → Some from ≡ Some i → FoundFrom name (s ∷ ss) from i
 found_here name s ss from i is e = record {
   at = 0;
   is = let same : from ≡ i = cc in omega arith;
-  found = record { within = omega arith; last = λ d. rw is refl; put = λ p d. rw is refl };
+  found = record {
+    within = omega arith;
+    last = λ d. rw is refl;
+    put = λ p d. rw is refl;
+    size = λ p. rw is (omega (arith, length_grown s p));
+  };
 }
 
 found_later : (name : List ℕ) (s : Series) (ss : List Series) (from i : ℕ) → is_named name s ≡ false → FoundFrom name ss (from + 1) i → FoundFrom name (s ∷ ss) from i
@@ -42,6 +60,7 @@ found_later name s ss from i is later = record {
     within = omega (arith, later.found.within);
     last = λ d. rw is (rw add-one (later.found.last d));
     put = λ p d. rw is (rw add-one (ap (λ xs. s ∷ xs) (later.found.put p d)));
+    size = λ p. rw is (omega (arith, later.found.size p));
   };
 }
 
@@ -57,10 +76,12 @@ found_from name (s ∷ ss) from i e = found_by name s ss from i (is_named name s
 missing_by : (name : List ℕ) (s : Series) (ss : List Series) (from : ℕ) (b : Bool) → is_named name s ≡ b → cond b (Some from) (position_from (is_named name) (from + 1) ss) ≡ None
     → (position_from (is_named name) (from + 1) ss ≡ None → Missing name ss) → Missing name (s ∷ ss)
 missing_by name s ss from true is e later = cc
-missing_by name s ss from false is e later = let m = later e in record { last = rw is m.last; put = λ p. rw is (ap (λ xs. s ∷ xs) (m.put p)) }
+missing_by name s ss from false is e later =
+    let m = later e in
+    record { last = rw is m.last; put = λ p. rw is (ap (λ xs. s ∷ xs) (m.put p)); size = λ p. rw is (omega (arith, m.size p)) }
 
 pub missing_from : (name : List ℕ) (ss : List Series) (from : ℕ) → position_from (is_named name) from ss ≡ None → Missing name ss
-missing_from name [] from e = record { last = refl; put = λ p. refl }
+missing_from name [] from e = record { last = refl; put = λ p. refl; size = λ p. length_new name p }
 missing_from name (s ∷ ss) from e = missing_by name s ss from (is_named name s) refl e (missing_from name ss (from + 1))
 
 pub found_at : (name : List ℕ) (ss : List Series) (i : ℕ) → position (is_named name) ss ≡ Some i → Found name ss i
@@ -72,49 +93,32 @@ found_at name ss i e =
 pub missing : (name : List ℕ) (ss : List Series) → position (is_named name) ss ≡ None → Missing name ss
 missing name ss e = missing_from name ss 0 (sym (position_from-zero (is_named name) ss) ∙ e)
 
-cond_some : (b : Bool) (n i : ℕ) → cond b (Some n) None ≡ Some i → n ≡ i
-cond_some true n i e = cc
-cond_some false n i e = cc
+-- the law of need_with
+pub need_found : (limits : Limits) (ss : List Series) (name : List ℕ) (p : Point) (i : ℕ) → Some i ≡ position (is_named name) ss → need_of limits (with_point ss name p) ≡ need_of limits ss + 16
+need_found limits ss name p i is = omega (arith, need_is limits ss, need_is limits (with_point ss name p), (found_at name ss i (sym is)).size p)
 
-cond_none : (b : Bool) (n : ℕ) → cond b (Some n) None ≡ None → b ≡ false
-cond_none true n e = cc
-cond_none false n e = refl
+pub need_missing : (limits : Limits) (ss : List Series) (name : List ℕ) (p : Point) → None ≡ position (is_named name) ss → need_of limits (with_point ss name p) ≡ need_of limits ss + 22 + length name
+need_missing limits ss name p is = omega (arith, need_is limits ss, need_is limits (with_point ss name p), (missing name ss (sym is)).size p)
 
-pub before_some : (p : ℕ → Bool) (xs : List ℕ) (i : ℕ) → position p xs ≡ Some i → take i xs ≡ before_first p xs
-before_some p xs i e = ap (λ (n : ℕ). take n xs) (sym (cond_some (nat_lt (position_or_len p xs) (length xs)) (position_or_len p xs) i e))
+-- ---- What functions of a place answer
 
-pub before_none : (p : ℕ → Bool) (xs : List ℕ) → position p xs ≡ None → xs ≡ before_first p xs
-before_none p xs e =
-    let past = cond_none (nat_lt (position_or_len p xs) (length xs)) (position_or_len p xs) e in
-    sym (take_all (position_or_len p xs) xs (ltb-false _ _ past))
+pub late_place : (ss : List Series) (name : List ℕ) (ts i : ℕ) (d : Series) → Some i ≡ position (is_named name) ss → late_behind (last_time (slice_index_or ss i d).points) ts ≡ late_of ss name ts
+late_place ss name ts i d is = ap (λ (o : Option ℕ). late_behind o ts) (sym ((found_at name ss i (sym is)).last d))
 
-nobody : Series
-nobody = record { name = []; points = [] }
+pub late_new : (ss : List Series) (name : List ℕ) (ts : ℕ) → None ≡ position (is_named name) ss → None ≡ late_of ss name ts
+late_new ss name ts is = ap (λ (o : Option ℕ). late_behind o ts) (sym (missing name ss (sym is)).last)
 
-module _ (ss new : List Series) (name : List ℕ) (at : ℕ) (p : Point) (found : Found name ss at) where
-  by_late : (late : Option ℕ) → late ≡ late_of ss name p.ts → (IsSome late → new ≡ ss) → (IsNone late → (d : Series) → new ≡ slice_set ss at (grown (slice_index_or ss at d) p)) → new ≡ after_put ss name p
-  by_late None is refused accepted = rw (sym is) (accepted (search rules) nobody ∙ sym (found.put p nobody))
-  by_late (Some last) is refused accepted = rw (sym is) (refused (search rules))
+series_of : List ℕ → List Point → Series
+series_of name points = record { name = name; points = points }
 
-  late_is : (late : Option ℕ) → ((d : Series) → late ≡ late_behind (last_time (slice_index_or ss at d).points) p.ts) → late ≡ late_of ss name p.ts
-  late_is late is = is nobody ∙ ap (λ o. late_behind o p.ts) (sym (found.last nobody))
+pub put_found : {T E : Type 0} (r : Result T E) (ss : List Series) (name : List ℕ) (i : ℕ) (p : Point) (s : Series) (points : List Point)
+    → Some i ≡ position (is_named name) ss → s ≡ slice_index_or ss i s → OnOk r (points ≡ s.points ++ p ∷ []) → OnOk r (slice_set ss i (record { name = s.name; points = points }) ≡ with_point ss name p)
+unfolding series_of
+put_found (Ok x) ss name i p s points at is e =
+    ap (λ (ps : List Point). slice_set ss i (series_of s.name ps)) e ∙ ap (λ (t : Series). slice_set ss i (grown t p)) is ∙ sym ((found_at name ss i (sym at)).put p s)
+put_found (Err x) ss name i p s points at is e = tt
 
--- what `put_at` says, in words of the name
-pub put_late : {E : Type 0} (ss : List Series) (name : List ℕ) (at : ℕ) (p : Point) (found : Found name ss at) (r : Result (Option ℕ) E)
-    → IfOk r (λ late. (d : Series) → late ≡ late_behind (last_time (slice_index_or ss at d).points) p.ts) → IfOk r (λ late. late ≡ late_of ss name p.ts)
-put_late ss name at p found (Ok late) is = late_is ss ss name at p found late is
-put_late ss name at p found (Err e) is = tt
-
-pub put_after : {E : Type 0} (ss new : List Series) (name : List ℕ) (at : ℕ) (p : Point) (found : Found name ss at) (r : Result (Option ℕ) E)
-    → IfOk r (λ late. (d : Series) → late ≡ late_behind (last_time (slice_index_or ss at d).points) p.ts)
-    → IfOk r (λ late. IsSome late → new ≡ ss) → IfOk r (λ late. IsNone late → (d : Series) → new ≡ slice_set ss at (grown (slice_index_or ss at d) p))
-    → OnOk r (new ≡ after_put ss name p)
-put_after ss new name at p found (Ok late) is refused accepted = by_late ss new name at p found late (late_is ss new name at p found late is) refused accepted
-put_after ss new name at p found (Err e) is refused accepted = tt
-
--- a name that is new isn't late, and gets a series of its own
-pub new_late : (ss : List Series) (name : List ℕ) (ts : ℕ) → Missing name ss → None ≡ late_of ss name ts
-new_late ss name ts m = rw m.last refl
-
-pub new_after : (ss new : List Series) (name : List ℕ) (p : Point) → Missing name ss → new ≡ ss ++ record { name = name; points = p ∷ [] } ∷ [] → new ≡ after_put ss name p
-new_after ss new name p m is = rw m.last (is ∙ sym (m.put p))
+pub put_missing : (ss new : List Series) (name : List ℕ) (p : Point) (points : List Point)
+    → None ≡ position (is_named name) ss → points ≡ p ∷ [] → new ≡ ss ++ record { name = name; points = points } ∷ [] → new ≡ with_point ss name p
+unfolding series_of
+put_missing ss new name p points at e is = is ∙ ap (λ (ps : List Point). ss ++ series_of name ps ∷ []) e ∙ sym ((missing name ss (sym at)).put p)

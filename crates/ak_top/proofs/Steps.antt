@@ -1,25 +1,40 @@
 -- What one answer of the reader does to how far a session has come.
-use Rattle.std.proofs.Common.{◌≡◌, ◌⊎◌, inl, inr, ℕ, Bool, true, false, List, ◌++◌, length, take, drop, take-append-drop, Option, Some, None, Result, Ok, Err, refl, sym, ◌∙◌, ap, subst, append_assoc}
-use Rattle.std.proofs.lemmas.List.{take_all}
-use Rattle.std.proofs.Common.{arith}
+use Rattle.std.proofs.Common.{◌≡◌, ◌⊎◌, inl, inr, ℕ, ◌+◌, ◌*◌, ◌<◌, ◌≤◌, ◌^◌, slice_index, Bool, true, false, if◌then◌else◌, List, [], ◌∷◌, ◌++◌, length, take, drop, take-append-drop, Option, Some, None, Result, Ok, Err, IfOk, OnOk, IsErrAnd, refl, sym, ◌∙◌, ap, subst, append_assoc, arith}
+use Rattle.std.specs.List.{AllByRecursion}
+use Rattle.std.proofs.lemmas.List.{take_all, append-nil}
 use Rattle.ak_base.specs.declared.refusal.Refusal.{Refusal}
 use Rattle.ak_base.specs.declared.refusal.Refusal.TheVariants.{NotBuilt}
+use Rattle.ak_base.specs.declared.stop.Stop.{Stop}
+use Rattle.ak_gate.specs.Fits.{Knows}
+use Rattle.ak_gate.specs.Fits.{Stands as GateStands}
+use Rattle.ak_host.specs.Files.{Files, file_at}
 use Rattle.ak_host.specs.Marks.{Mark}
-use Rattle.ak_host.specs.Moments.{HostState, PortPasses}
-use Rattle.ak_host.proofs.Passing.{port_starts, port_goes_on}
+use Rattle.ak_host.specs.Moments.{HostState, LeavesNow, Passes, PortPasses}
+use Rattle.ak_host.proofs.Passing.{passes_weaker, ports_leave}
+use Rattle.ak_base.specs.Points.{IsPoint}
+use Rattle.ak_base.specs.declared.point.Point.{Point}
 use Rattle.ak_resp.specs.declared.message.Message.{Message}
+use Rattle.ak_resp.specs.declared.message.Message.TheVariants.{Put}
 use Rattle.ak_resp.specs.declared.message.RespError.{RespError}
 use Rattle.ak_resp.specs.declared.message.RespError.TheVariants.{Refused}
 use Rattle.ak_resp.specs.declared.resp.Resp.{Resp}
 use Rattle.ak_resp.specs.Standing.{StandsFor, StandsAfter, TellsFault, OnNone, is_faulted}
-use Rattle.ak_top.specs.declared.node.Session.{Session}
-use Rattle.ak_top.specs.declared.store.Series.{Series}
-use Rattle.ak_top.specs.Calls.{Told}
-use Rattle.ak_top.specs.Pieces.{Begun, ReadsOn, InPiece, AfterPiece}
-use Rattle.ak_top.specs.Replies.{reply_to, refusal_reply}
-use Rattle.ak_top.specs.Store.{series_after}
 use Rattle.ak_resp.proofs.Readers.{fault_stays}
-use Rattle.ak_top.proofs.Pieces.{in_piece, reads_message, read_all, read_fault, after_in_piece}
+use Rattle.ak_top.specs.declared.keeper.Keeper.{Keeper}
+use Rattle.ak_top.specs.declared.node.Session.{Session}
+use Rattle.ak_top.specs.declared.store.Store.{Store}
+use Rattle.ak_top.specs.Store.{after_put}
+use Rattle.ak_top.proofs.Stored.{stored_after}
+use Rattle.ak_top.specs.Calls.{Told, OnStop}
+use Rattle.ak_top.specs.Contents.{Content, views_of, after, after_all}
+use Rattle.ak_top.specs.Keeping.{IsIn}
+use Rattle.ak_top.specs.Pieces.{IsAllowed, InAnswer, LeavesInAnswer, Begun, ReadsOn, InPiece, LeavesInPiece, AfterPiece, WearsPiece}
+use Rattle.ak_top.specs.Replies.{Reply, reply_to, replies_to, refusal_reply, bytes_at}
+use Rattle.ak_top.specs.Run.{PieceGives, to}
+use Rattle.ak_top.specs.Standing.{IsReady, Holds}
+use Rattle.ak_top.proofs.Growing.{after_all-append, last_in, stays_all, rises, rises_all, sound_after, confirms_within, confirms_all_within, all_append}
+use Rattle.ak_top.proofs.Pieces.{allowed, Heard, heard_all, Whole, whole_piece, in_whole, leaves_whole, wears_whole, reads_message, read_all, read_fault, told_more, answered_more}
+use Rattle.ak_top.proofs.Prefixes.{confirms_all}
 
 abbrev Answer : Type 0
 Answer = Result (Option Message) RespError
@@ -38,20 +53,136 @@ not_true false n = refl
 pub was_sound : {old new : Resp} {a b : ℕ} (o : Option Message) → Kept old new a b (Ok o) → is_faulted old ≡ false
 was_sound {old} o kept = not_true (is_faulted old) (λ f. let k = (kept f).0 in cc)
 
-pub whole_piece : (stream piece : List ℕ) (k : ℕ) → (stream ++ take k piece) ++ drop k piece ≡ stream ++ piece
-whole_piece stream piece k = append_assoc stream (take k piece) (drop k piece) ∙ ap (λ (l : List ℕ). stream ++ l) (take-append-drop k piece)
+pub to_whole : (stream piece : List ℕ) (k : ℕ) → (stream ++ take k piece) ++ drop k piece ≡ stream ++ piece
+to_whole stream piece k = append_assoc stream (take k piece) (drop k piece) ∙ ap (λ (l : List ℕ). stream ++ l) (take-append-drop k piece)
 
-module _ (begun : Begun) (piece : List ℕ) (series : List Series) (session : Session) (k j : ℕ) (before : Mark) (at : ReadsOn begun series session (begun.stream ++ take k piece) before) (new : Resp) where
-  -- a message was read, and answered
-  pub after_message : (m : Message) (o : Option Message) → o ≡ Some m → Reads session.reader new (take k piece) (take j piece) (Ok o) → Kept session.reader new k j (Ok o) → TellsFault new (Ok o)
-      → (next : List Series) (after : Mark) → next ≡ series_after series m → Told before after 1 (reply_to series m)
-      → ReadsOn begun next (record session { reader = new }) (begun.stream ++ take j piece) after
-  after_message m o is reads kept fault next after acted told =
-      reads_message m at (λ ms s. subst (λ x. StandsAfter new (begun.stream ++ take j piece) ms (Ok x)) is (reads begun.stream ms s)) (was_sound o kept) fault refl acted told
+-- ---- What a piece gives
+
+pub gives_confirms : {content next : Content} {stream bytes : List ℕ} {replies : List Reply} → PieceGives content stream bytes next replies → AllByRecursion (confirms_within next.last.number) replies
+gives_confirms {content} {next} {stream} {bytes} {replies} g =
+    subst (AllByRecursion (confirms_within next.last.number)) (sym g.replies_are)
+    (all_append (confirms_within next.last.number) (replies_to content g.acting) _
+    (subst (λ (c : Content). AllByRecursion (confirms_within c.last.number) (replies_to content g.acting)) (sym g.next_is) (confirms_all_within content g.acting))
+    (fault_confirms _))
+  where
+    fault_confirms : (b : Bool) → AllByRecursion (confirms_within next.last.number) (if b then to 1 (refusal_reply NotBuilt) else [])
+    fault_confirms true = (omega arith, tt)
+    fault_confirms false = tt
+
+pub gives_rises : {content next : Content} {stream bytes : List ℕ} {replies : List Reply} → PieceGives content stream bytes next replies → content.last.number ≤ next.last.number
+gives_rises {content} {next} g = subst (λ (c : Content). content.last.number ≤ c.last.number) (sym g.next_is) (rises_all content g.acting)
+
+-- all that a piece is answered was told, and a stop leaves the last view
+pub after_in_piece : {begun : Begun} {bytes : List ℕ} {keeper : Keeper} {session : Session} {mark : Mark} {host : HostState} → AfterPiece begun bytes keeper session mark host → InPiece begun bytes mark
+after_in_piece after = record {
+  next = after.next;
+  replies = after.replies;
+  gives = after.gives;
+  part = bytes_at 1 after.replies;
+  told = after.told;
+  begins = record { rest = []; is = sym (append-nil (bytes_at 1 after.replies)) };
+}
+
+pub after_leaves_piece : {begun : Begun} {bytes : List ℕ} {keeper : Keeper} {session : Session} {mark : Mark} {host : HostState} (after : AfterPiece begun bytes keeper session mark host) (disk : Files)
+    → LeavesNow host disk → LeavesInPiece begun bytes mark disk
+after_leaves_piece {begun} {bytes} after disk left = record {
+  acting = record {
+    next = after.next;
+    replies = after.replies;
+    gives = after.gives;
+    part = bytes_at 1 after.replies;
+    told = after.told;
+    begins = record { rest = []; is = sym (append-nil (bytes_at 1 after.replies)) };
+  };
+  left = record {
+    view = after.next.last;
+    stands = after.holds.left disk left;
+    taken = last_in after.next;
+    recent = gives_rises after.gives;
+    confirmed = λ port. confirms_all port _ after.next.last.number after.replies (gives_confirms after.gives);
+  };
+}
+
+-- calls of ports leave what the store holds
+pub holds_after_ports : {M : Mark → Type 0} (content : Content) (keeper : Keeper) (old new : HostState) → Holds content keeper old → PortPasses M old new → Holds content keeper new
+holds_after_ports content keeper old new holds run = record {
+  limits_are = holds.limits_are;
+  series_are = holds.series_are;
+  number_is = holds.number_is;
+  not_worn = holds.not_worn;
+  stored = holds.stored;
+  saved = holds.saved;
+  left = λ disk left. holds.left disk (ports_leave run disk left);
+}
+
+pub on_stop_weaker : {T P Q : Type 0} (is : Stop → Type 0) (r : Result T Stop) → (P → Q) → OnStop is r P → OnStop is r Q
+on_stop_weaker is (Ok v) to_q h = tt
+on_stop_weaker is (Err s) to_q h = λ stop. to_q (h stop)
+
+module _ (begun : Begun) (piece : List ℕ) (keeper : Keeper) (session : Session) (k j : ℕ) (before : Mark) (old : HostState) (at : ReadsOn begun keeper session (begun.stream ++ take k piece) before old) (new : Resp) where
+  -- what the store held as the message was read
+  abbrev pub held : Content
+  held = after_all begun.content at.acting
+
+  told_here : (mark : Mark) → mark ≡ before → Told begun.mark mark 1 (bytes_at 1 (replies_to begun.content at.acting))
+  told_here mark same = subst (λ (x : Mark). Told begun.mark x 1 (bytes_at 1 (replies_to begun.content at.acting))) (sym same) at.told
+
+  module _ (m : Message) (o : Option Message) (is : o ≡ Some m) (reads : Reads session.reader new (take k piece) (take j piece) (Ok o)) where
+    next_stands : (ms : List Message) → StandsFor session.reader (begun.stream ++ take k piece) ms → StandsFor new (begun.stream ++ take j piece) (ms ++ m ∷ [])
+    next_stands ms s = subst (λ x. StandsAfter new (begun.stream ++ take j piece) ms (Ok x)) is (reads begun.stream ms s)
+
+    pub is_allowed : IsAllowed m
+    is_allowed = allowed (begun.stream ++ take j piece) (begun.messages ++ at.acting) m new (next_stands (begun.messages ++ at.acting) at.stands)
+
+    -- a message was read, and answered
+    pub after_message : Kept session.reader new k j (Ok o) → TellsFault new (Ok o)
+        → (next : Keeper) (after_mark : Mark) (after_host : HostState) → Holds (after held m) next after_host → Told before after_mark 1 (reply_to held m).bytes
+        → ReadsOn begun next (record session { reader = new }) (begun.stream ++ take j piece) after_mark after_host
+    after_message kept fault next after_mark after_host holds told = reads_message m at next_stands (was_sound o kept) fault refl holds told
+
+    heard : Heard begun new (begun.stream ++ take j piece) at.acting (m ∷ []) before
+    heard = record { stands = subst (StandsFor new (begun.stream ++ take j piece)) (append_assoc begun.messages at.acting (m ∷ [])) (next_stands (begun.messages ++ at.acting) at.stands); told = at.told }
+
+    whole : Whole begun piece at.acting (m ∷ [])
+    whole = whole_piece begun piece (drop j piece) (to_whole begun.stream piece j) heard
+
+    module _ (kept : Kept session.reader new k j (Ok o)) (fault : TellsFault new (Ok o)) where
+      -- the answer was told
+      told_all : (mark : Mark) → Told before mark 1 (reply_to held m).bytes → Told begun.mark mark 1 (bytes_at 1 (replies_to begun.content (at.acting ++ m ∷ [])))
+      told_all mark told = subst (λ b. Told begun.mark mark 1 b) (answered_more begun.content at.acting m) (told_more at.told told)
+
+      reads_all : (mark : Mark) → Told before mark 1 (reply_to held m).bytes → Heard begun new (begun.stream ++ take j piece) (at.acting ++ m ∷ []) [] mark
+      reads_all mark told = record {
+        stands = subst (λ (ms : List Message). StandsFor new (begun.stream ++ take j piece) (begun.messages ++ ms)) (sym (append-nil (at.acting ++ m ∷ []))) heard.stands;
+        told = told_all mark told;
+      }
+
+      whole_told : (mark : Mark) → Told before mark 1 (reply_to held m).bytes → Whole begun piece (at.acting ++ m ∷ []) []
+      whole_told mark told = whole_piece begun piece (drop j piece) (to_whole begun.stream piece j) (reads_all mark told)
+
+      held_after : after_all begun.content (at.acting ++ m ∷ []) ≡ after held m
+      held_after = after_all-append begun.content at.acting (m ∷ [])
+
+      pub message_moment : (mark : Mark) → InAnswer held m before mark → InPiece begun piece mark
+      message_moment mark (inl same) = in_whole begun piece whole (told_here mark same)
+      message_moment mark (inr told) = in_whole begun piece (whole_told mark told) (told_all mark told)
+
+      pub message_leaves : (mark : Mark) (disk : Files) → LeavesInAnswer held m before mark disk → LeavesInPiece begun piece mark disk
+      message_leaves mark disk (inl (same, left)) =
+          leaves_whole begun piece whole (told_here mark same) held.last disk left (stays_all held.last held (m ∷ []) (last_in held)) (omega arith)
+      message_leaves mark disk (inr (inl same, left)) =
+          leaves_whole begun piece whole (told_here mark same) (after held m).last disk left (last_in (after held m)) (rises held m)
+      message_leaves mark disk (inr (inr told, left)) =
+          leaves_whole begun piece (whole_told mark told) (told_all mark told) (after held m).last disk left
+          (subst (λ (c : Content). IsIn (after held m).last (views_of c)) (sym held_after) (last_in (after held m)))
+          (subst (λ (c : Content). c.last.number ≤ (after held m).last.number) (sym held_after) (omega arith))
+
+    pub message_wears : (after held m).worn ≡ true → WearsPiece begun piece
+    message_wears worn = wears_whole begun piece whole worn
 
   -- the piece is used up
   pub after_none : (o : Option Message) → o ≡ None → Reads session.reader new (take k piece) (take j piece) (Ok o) → Kept session.reader new k j (Ok o) → TellsFault new (Ok o)
-      → OnNone (Ok o) (j ≡ length piece) → AfterPiece begun piece series (record session { reader = new }) before
+      → OnNone (Ok o) (j ≡ length piece) → AfterPiece begun piece keeper (record session { reader = new }) before old
   after_none o is reads kept fault used =
       read_all piece at (λ ms s. subst (λ l. StandsFor new (begun.stream ++ l) ms) whole (subst (λ x. StandsAfter new (begun.stream ++ take j piece) ms (Ok x)) is (reads begun.stream ms s)))
       (fault ∙ sym (was_sound o kept)) refl
@@ -63,39 +194,84 @@ module _ (begun : Begun) (piece : List ℕ) (series : List Series) (session : Se
       whole = take_all j piece (omega (arith, at_end))
 
   -- a fault was met before, and was told then
-  pub after_kept : (e : RespError) → Kept session.reader new k j (Err e) → session.faulted ≡ true → AfterPiece begun piece series (record session { reader = new }) before
+  pub after_kept : (e : RespError) → Kept session.reader new k j (Err e) → session.faulted ≡ true → AfterPiece begun piece keeper (record session { reader = new }) before old
   after_kept e kept flag =
       let old = sym at.fault ∙ flag in
       let same = (kept old).1 in
       read_all piece at
       (λ ms s. subst (λ r. StandsFor r (begun.stream ++ piece) ms) (sym same)
-      (subst (λ l. StandsFor session.reader l ms) (whole_piece begun.stream piece k) (fault_stays session.reader (begun.stream ++ take k piece) (drop k piece) ms old s)))
+      (subst (λ l. StandsFor session.reader l ms) (to_whole begun.stream piece k) (fault_stays session.reader (begun.stream ++ take k piece) (drop k piece) ms old s)))
       (ap is_faulted same) refl
 
   -- a fault was met, and told
   pub after_fault : (f : Refusal) (e : RespError) → e ≡ Refused f → Reads session.reader new (take k piece) (take j piece) (Err e) → TellsFault new (Err e) → session.faulted ≡ false
-      → (after : Mark) → Told before after 1 (refusal_reply f) → AfterPiece begun piece series (record { reader = new; faulted = true }) after
-  after_fault f e is reads fault flag after told =
+      → (after_mark : Mark) (after_host : HostState) → Told before after_mark 1 (refusal_reply f) → Holds held keeper after_host → AfterPiece begun piece keeper (record { reader = new; faulted = true }) after_mark after_host
+  after_fault f e is reads fault flag after_mark after_host told holds =
       let tells = subst (λ x. TellsFault new (Err x)) is fault in
       read_fault piece (drop j piece) at (λ ms s. subst (λ x. StandsAfter new (begun.stream ++ take j piece) ms (Err x)) is (reads begun.stream ms s))
-      (whole_piece begun.stream piece j) (sym at.fault ∙ flag) tells.0 refl (subst (λ r. Told before after 1 (refusal_reply r)) tells.1 told)
+      (to_whole begun.stream piece j) (sym at.fault ∙ flag) tells.0 refl (subst (λ r. Told before after_mark 1 (refusal_reply r)) tells.1 told) holds
 
-  pub here : InPiece begun piece before
-  here = in_piece begun piece (drop k piece) (whole_piece begun.stream piece k) at
-
-  -- the moments of an answer, or of a fault
-
-  pub message_moment : (m : Message) (o : Option Message) → o ≡ Some m → Reads session.reader new (take k piece) (take j piece) (Ok o) → Kept session.reader new k j (Ok o) → TellsFault new (Ok o)
-      → (mark : Mark) → (mark ≡ before) ⊎ Told before mark 1 (reply_to series m) → InPiece begun piece mark
-  message_moment m o is reads kept fault mark (inl same) = subst (InPiece begun piece) (sym same) here
-  message_moment m o is reads kept fault mark (inr told) =
-      in_piece begun piece (drop j piece) (whole_piece begun.stream piece j) (after_message m o is reads kept fault (series_after series m) mark refl told)
+  -- nothing of the next message was read
+  whole_here : Whole begun piece at.acting []
+  whole_here = whole_piece begun piece (drop k piece) (to_whole begun.stream piece k) (heard_all at)
 
   pub fault_moment : (f : Refusal) (e : RespError) → e ≡ Refused f → Reads session.reader new (take k piece) (take j piece) (Err e) → TellsFault new (Err e) → session.faulted ≡ false
       → (mark : Mark) → (mark ≡ before) ⊎ Told before mark 1 (refusal_reply f) → InPiece begun piece mark
-  fault_moment f e is reads fault flag mark (inl same) = subst (InPiece begun piece) (sym same) here
-  fault_moment f e is reads fault flag mark (inr told) = after_in_piece (after_fault f e is reads fault flag mark told)
+  fault_moment f e is reads fault flag mark (inl same) = in_whole begun piece whole_here (told_here mark same)
+  fault_moment f e is reads fault flag mark (inr told) = after_in_piece (after_fault f e is reads fault flag mark old told at.holds)
+
+  pub fault_leaves : (f : Refusal) (e : RespError) → e ≡ Refused f → Reads session.reader new (take k piece) (take j piece) (Err e) → TellsFault new (Err e) → session.faulted ≡ false
+      → (mark : Mark) (disk : Files) → (mark ≡ before) ⊎ Told before mark 1 (refusal_reply f) → LeavesNow old disk → LeavesInPiece begun piece mark disk
+  fault_leaves f e is reads fault flag mark disk (inl same) left =
+      leaves_whole begun piece whole_here (told_here mark same) held.last disk (at.holds.left disk left) (last_in held) (omega arith)
+  fault_leaves f e is reads fault flag mark disk (inr told) left = after_leaves_piece (after_fault f e is reads fault flag mark old told at.holds) disk left
 
 -- one call's moments
-pub by_moment : {M : Mark → Type 0} {N : Mark → Type 0} {old new : HostState} → PortPasses N old new → ((mark : Mark) → N mark → M mark) → PortPasses M old new
-by_moment {M} {N} {old} {new} call is = port_goes_on (port_starts M old) call is
+pub by_moment : {M N : Mark → Type 0} {P Q : Mark → Files → Type 0} {old new : HostState} → Passes N Q old new → ((mark : Mark) → N mark → M mark) → ((mark : Mark) (disk : Files) → N mark → Q mark disk → P mark disk) → Passes M P old new
+by_moment call marks disks = passes_weaker call marks disks
+
+pub ok_is : {T E P : Type 0} (r : Result T E) → P → OnOk r P
+ok_is (Ok v) p = p
+ok_is (Err e) p = tt
+
+-- a put that was answered
+pub put_holds : (content : Content) (keeper : Keeper) (store : Store) (old new : HostState) (name : List ℕ) (p : Point) → Holds content keeper old → length name < 2 ^ 16 → IsPoint p
+    → store.limits ≡ keeper.store.limits → store.series.items ≡ after_put keeper.store.limits keeper.store.series.items name p
+    → ((disk : Files) → LeavesNow new disk → LeavesNow old disk)
+    → Holds (after content (Put name p.ts p.value)) (record { gate = keeper.gate; store = store }) new
+put_holds content keeper store old new name p holds short in_range limits series back =
+    subst (λ (c : Content). Holds c (record { gate = keeper.gate; store = store }) new) (sym (sound_after content (Put name p.ts p.value) holds.not_worn)) (record {
+      limits_are = limits ∙ holds.limits_are;
+      series_are = series ∙ (λ i. after_put (holds.limits_are i) (holds.series_are i) name p);
+      number_is = holds.number_is;
+      not_worn = holds.not_worn;
+      stored = stored_after content.last.limits content.series name p holds.stored short in_range;
+      saved = holds.saved;
+      left = λ disk left. holds.left disk (back disk left);
+    })
+
+-- calls of ports leave the gate fitting
+pub ready_after_ports : (told : Type 0) (keeper : Keeper) (old new : HostState) → IsReady told keeper old → new.sizes ≡ old.sizes → (told → new.files ≡ old.files)
+    → (told → (disk : Files) → LeavesNow new disk → LeavesNow old disk) → IsReady told keeper new
+ready_after_ports told keeper old new ready sizes files back = record {
+  whole = ready.whole;
+  opened = ready.opened;
+  slot_is = ready.slot_is;
+  sized = record { there = subst (λ (l : List ℕ). 0 < length l) (sym sizes) ready.sized.there; blocks = subst (λ (l : List ℕ). slice_index l 0 ≡ 2 + 2 * keeper.gate.slot) (sym sizes) ready.sized.blocks; small = ready.sized.small };
+  fit = ready.fit;
+  fits = λ t. record {
+    knows = subst (λ (f : Files). Knows keeper.gate (file_at f 0)) (sym (files t)) (ready.fits t).knows;
+    stands = λ disk left. subst (λ (f : Files). GateStands keeper.gate (file_at f 0) (file_at disk 0)) (sym (files t)) ((ready.fits t).stands disk (back t disk left));
+  };
+}
+
+pub on_stop_from : {T P : Type 0} (is : Stop → Type 0) (r : Result T Stop) (s : Stop) → IsErrAnd r (λ e. e ≡ s) → (is s → P) → OnStop is r P
+on_stop_from is (Ok v) s err to = absurd err
+on_stop_from {P = P} is (Err e) s same to = λ stop. to (subst is same stop)
+
+pub refl_le : (n : ℕ) → n ≤ n
+refl_le n = omega arith
+
+pub if_and_ok : {T E Q : Type 0} {R : T → Type 0} (r : Result T E) (t : T) → IfOk r (λ v. v ≡ t) → OnOk r Q → ((v : T) → v ≡ t → Q → R v) → IfOk r R
+if_and_ok (Ok v) t is q to = to v is q
+if_and_ok (Err e) t is q to = tt

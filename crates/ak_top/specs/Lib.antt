@@ -1,7 +1,12 @@
 pub mod Store
+pub mod Contents
 pub mod Replies
 pub mod Run
+pub mod Keeping
 pub mod Told
-pub mod Standing
+pub mod Kept
 pub mod Calls
+pub mod Standing
 pub mod Pieces
+pub mod Commands
+pub mod Ends

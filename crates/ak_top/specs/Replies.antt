@@ -1,16 +1,16 @@
 -- What a session is told.
-use Rattle.std.specs.Prelude.{ℕ, ◌==◌, if◌then◌else◌, List, [], ◌∷◌, ◌++◌, length, Option, Some, None, codes}
+use Rattle.std.specs.Prelude.{ℕ, ◌+◌, ◌==◌, if◌then◌else◌, List, [], ◌∷◌, ◌++◌, length, Option, Some, None, codes}
 use Rattle.std.specs.Fmt.{decimal, signed_decimal}
 use Rattle.std.specs.List.{before_first, flat_map}
 use Rattle.std.specs.Str.{bytes_eq}
 use Rattle.ak_base.specs.declared.point.Point.{Point}
 use Rattle.ak_base.specs.declared.refusal.Refusal.{Refusal}
-use Rattle.ak_base.specs.declared.refusal.Refusal.TheVariants.{Late}
 use Rattle.ak_base.specs.Refusals.{code_of, refusal_text}
 use Rattle.ak_resp.specs.declared.message.Message.{Message}
-use Rattle.ak_resp.specs.declared.message.Message.TheVariants.{Put, Query}
-use Rattle.ak_top.specs.declared.store.Series.{Series}
-use Rattle.ak_top.specs.Store.{late_of, series_after}
+use Rattle.ak_resp.specs.declared.message.Message.TheVariants.{Put, Query, Flush}
+use Rattle.ak_view.specs.declared.series.Series.{Series}
+use Rattle.ak_top.specs.Contents.{Content, is_last, after}
+use Rattle.ak_top.specs.Store.{refusal_of}
 
 abbrev pub crlf : List ℕ
 crlf = 13 ∷ 10 ∷ []
@@ -39,15 +39,39 @@ series_rows metric s = if bytes_eq (metric_of s.name) metric then flat_map (row_
 abbrev pub rows_of : List Series → List ℕ → List ℕ
 rows_of ss metric = flat_map (series_rows metric) ss
 
-abbrev pub late_reply : Option ℕ → List ℕ
-late_reply None = []
-late_reply (Some last) = refusal_reply (Late last)
-
 -- An accepted point answers nothing.
-abbrev pub reply_to : List Series → Message → List ℕ
-reply_to ss (Put name time value) = late_reply (late_of ss name time)
-reply_to ss (Query metric) = bulk_reply (rows_of ss metric)
+abbrev pub put_reply : Option Refusal → List ℕ
+put_reply None = []
+put_reply (Some r) = refusal_reply r
 
-abbrev pub replies_to : List Series → List Message → List ℕ
-replies_to ss [] = []
-replies_to ss (m ∷ ms) = reply_to ss m ++ replies_to (series_after ss m) ms
+-- a flush is confirmed
+abbrev pub ok_reply : List ℕ
+ok_reply = codes "+OK" ++ crlf
+
+-- what a port is told at once, and the number of the view that this confirms: 0 where it confirms none
+pub record Reply : Type 0 where
+  pub port : ℕ
+  pub bytes : List ℕ
+  pub confirms : ℕ
+
+-- a reply that confirms no view
+abbrev pub plain : ℕ → List ℕ → Reply
+plain port bytes = record { port = port; bytes = bytes; confirms = 0 }
+
+abbrev pub answer_to : Content → Message → Reply
+answer_to c (Put name time value) = plain 1 (put_reply (refusal_of c.last.limits c.series name (record { ts = time; value = value })))
+answer_to c (Query metric) = plain 1 (bulk_reply (rows_of c.series metric))
+answer_to c Flush = if is_last c then plain 1 [] else record { port = 1; bytes = ok_reply; confirms = c.last.number + 1 }
+
+-- Once the store is worn, nothing is answered.
+abbrev pub reply_to : Content → Message → Reply
+reply_to c m = if c.worn then plain 1 [] else answer_to c m
+
+abbrev pub replies_to : Content → List Message → List Reply
+replies_to c [] = []
+replies_to c (m ∷ ms) = reply_to c m ∷ replies_to (after c m) ms
+
+-- all the bytes that a port is told
+abbrev pub bytes_at : ℕ → List Reply → List ℕ
+bytes_at port [] = []
+bytes_at port (r ∷ rs) = (if r.port == port then r.bytes else []) ++ bytes_at port rs

@@ -1,24 +1,25 @@
 -- A run: what turns make of the world, and what they are answered.
-use Rattle.std.specs.Prelude.{ℕ, ◌≡◌, ◌≢◌, ◌↔◌, ◌⊎◌, Bool, true, if◌then◌else◌, List, [], ◌∷◌, ◌++◌, Option, Some, None}
+use Rattle.std.specs.Prelude.{ℕ, ◌≡◌, ◌≢◌, ◌↔◌, ◌⊎◌, Bool, true, false, not, ◌&&◌, if◌then◌else◌, List, [], ◌∷◌, ◌++◌, Option, Some, None}
 use Rattle.ak_base.specs.declared.refusal.Refusal.TheVariants.{Cut, NotBuilt}
-use Rattle.ak_host.specs.Marks.{Taken, piece, ended, idle, done, Telling, told_to}
+use Rattle.ak_host.specs.Marks.{Taken, piece, ended, idle, done}
 use Rattle.ak_resp.specs.declared.message.Message.{Message}
 use Rattle.ak_resp.specs.Grammar.{IsOpen, Splits}
-use Rattle.ak_top.specs.declared.store.Series.{Series}
-use Rattle.ak_top.specs.Store.{series_after_all}
-use Rattle.ak_top.specs.Replies.{refusal_reply, replies_to}
+use Rattle.ak_view.specs.Views.{View}
+use Rattle.ak_top.specs.Contents.{Content, opened, after_view, after_all}
+use Rattle.ak_top.specs.Replies.{Reply, plain, refusal_reply, replies_to, bytes_at}
 
--- the series, and the bytes of port 1 since its session began, where one is open
+-- what the store holds, and the bytes of port 1 since its session began, where one is open
 pub record World : Type 0 where
-  pub series : List Series
+  pub content : Content
   pub stream : Option (List ℕ)
 
-abbrev pub empty_world : World
-empty_world = record { series = []; stream = None }
+-- as a view is opened
+abbrev pub world_of : View → World
+world_of view = record { content = opened view; stream = None }
 
--- one telling
-abbrev pub to : ℕ → List ℕ → List Telling
-to port bytes = record { port = port; bytes = bytes } ∷ []
+-- one reply, which confirms no view
+abbrev pub to : ℕ → List ℕ → List Reply
+to port bytes = plain port bytes ∷ []
 
 -- the bytes of an open session, or of one that begins
 abbrev pub stream_bytes : Option (List ℕ) → List ℕ
@@ -26,8 +27,8 @@ stream_bytes None = []
 stream_bytes (Some stream) = stream
 
 -- Bytes come behind a stream. The messages of the longer stream that weren't messages before act now, in order. Then
--- the stream's fault is answered, where it has one that it hadn't before.
-pub record PieceGives (series : List Series) (stream bytes : List ℕ) (next : List Series) (reply : List ℕ) : Type 0 where
+-- the stream's fault is answered, where it has one that it hadn't before, unless the store is worn.
+pub record PieceGives (content : Content) (stream bytes : List ℕ) (next : Content) (replies : List Reply) : Type 0 where
   pub before : List Message
   pub acting : List Message
   pub rest : List ℕ
@@ -36,8 +37,8 @@ pub record PieceGives (series : List Series) (stream bytes : List ℕ) (next : L
   pub is : Splits (stream ++ bytes) (before ++ acting) rest_after
   pub fault : Bool
   pub fault_is : (fault ≡ true) ↔ (IsOpen stream × ¬ (IsOpen (stream ++ bytes)))
-  pub next_is : next ≡ series_after_all series acting
-  pub reply_is : reply ≡ replies_to series acting ++ (if fault then refusal_reply NotBuilt else [])
+  pub next_is : next ≡ after_all content acting
+  pub replies_are : replies ≡ replies_to content acting ++ (if fault && not next.worn then to 1 (refusal_reply NotBuilt) else [])
 
 -- the stream has bytes after its last message, and no fault
 pub record IsCut (stream : List ℕ) : Type 0 where
@@ -53,43 +54,46 @@ EndGives None reply = reply ≡ []
 EndGives (Some stream) reply = (cut : Bool) × ((cut ≡ true) ↔ IsCut stream) × (reply ≡ (if cut then refusal_reply Cut else []))
 
 -- a piece on port 1
-pub record PieceTurn (world : World) (bytes : List ℕ) (next : World) (tellings : List Telling) : Type 0 where
-  pub reply : List ℕ
-  pub gives : PieceGives world.series (stream_bytes world.stream) bytes next.series reply
+pub record PieceTurn (world : World) (bytes : List ℕ) (next : World) (replies : List Reply) : Type 0 where
+  pub gives : PieceGives world.content (stream_bytes world.stream) bytes next.content replies
   pub stream_is : next.stream ≡ Some (stream_bytes world.stream ++ bytes)
-  pub told : tellings ≡ to 1 reply
 
--- the end of port 1's session
-pub record EndTurn (world next : World) (tellings : List Telling) : Type 0 where
+-- the end of port 1's session, which leaves the store holding this
+pub record EndTurn (world : World) (content : Content) (next : World) (replies : List Reply) : Type 0 where
   pub reply : List ℕ
   pub gives : EndGives world.stream reply
-  pub series_is : next.series ≡ world.series
+  pub content_is : next.content ≡ content
   pub stream_is : next.stream ≡ None
-  pub told : tellings ≡ to 1 reply
+  pub told : replies ≡ to 1 reply
 
 -- nothing changes, and this is told
-pub record OtherTurn (world next : World) (tellings told : List Telling) : Type 0 where
+pub record OtherTurn (world next : World) (replies told : List Reply) : Type 0 where
   pub same : next ≡ world
-  pub told_is : tellings ≡ told
+  pub told_is : replies ≡ told
 
--- One turn. Sessions are those of port 1 alone: each piece on another port is refused there and dropped.
-abbrev pub Gives : World → Taken → World → List Telling → Type 0
-Gives world (piece port bytes) next tellings =
-    ((port ≡ 1) × PieceTurn world bytes next tellings)
-    ⊎ ((port ≢ 1) × OtherTurn world next tellings (to port (refusal_reply NotBuilt)))
-Gives world (ended port) next tellings = ((port ≡ 1) × EndTurn world next tellings) ⊎ ((port ≢ 1) × OtherTurn world next tellings [])
-Gives world idle next tellings = OtherTurn world next tellings []
-Gives world done next tellings = EndTurn world next tellings
+-- One turn. Sessions are those of port 1 alone: each piece on another port is refused there and dropped. The turn
+-- `Done` ends the session, and takes a view.
+abbrev pub Acts : World → Taken → World → List Reply → Type 0
+Acts world (piece port bytes) next replies =
+    ((port ≡ 1) × PieceTurn world bytes next replies)
+    ⊎ ((port ≢ 1) × OtherTurn world next replies (to port (refusal_reply NotBuilt)))
+Acts world (ended port) next replies = ((port ≡ 1) × EndTurn world world.content next replies) ⊎ ((port ≢ 1) × OtherTurn world next replies [])
+Acts world idle next replies = OtherTurn world next replies []
+Acts world done next replies = EndTurn world (after_view world.content) next replies
+
+-- one turn, which does nothing once the store is worn
+abbrev pub Gives : World → Taken → World → List Reply → Type 0
+Gives world turn next replies = ((world.content.worn ≡ true) × OtherTurn world next replies []) ⊎ ((world.content.worn ≡ false) × Acts world turn next replies)
 
 -- turns from a world on
-abbrev pub RunsFrom : World → List Taken → World → List Telling → Type 0
-RunsFrom world [] last tellings = OtherTurn world last tellings []
-RunsFrom world (turn ∷ turns) last tellings = (next : World) × (first : List Telling) × (others : List Telling)
-    × Gives world turn next first × RunsFrom next turns last others × (tellings ≡ first ++ others)
+abbrev pub RunsFrom : World → List Taken → World → List Reply → Type 0
+RunsFrom world [] last replies = OtherTurn world last replies []
+RunsFrom world (turn ∷ turns) last replies = (next : World) × (first : List Reply) × (others : List Reply)
+    × Gives world turn next first × RunsFrom next turns last others × (replies ≡ first ++ others)
 
--- These turns are answered so at this port.
-pub record AreAnswers (turns : List Taken) (port : ℕ) (bytes : List ℕ) : Type 0 where
+-- These turns, from the opening of this view on, are answered so at this port.
+pub record AreAnswers (view : View) (turns : List Taken) (port : ℕ) (bytes : List ℕ) : Type 0 where
   pub last : World
-  pub tellings : List Telling
-  pub run : RunsFrom empty_world turns last tellings
-  pub is : bytes ≡ told_to port tellings
+  pub replies : List Reply
+  pub run : RunsFrom (world_of view) turns last replies
+  pub is : bytes ≡ bytes_at port replies

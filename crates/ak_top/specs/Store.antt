@@ -1,11 +1,13 @@
--- The series of a store, and what a message makes of them.
+-- The series of a store, and what a point makes of them.
 use Rattle.std.specs.Option.{option_map}
-use Rattle.std.specs.Prelude.{ℕ, ◌-◌, length, slice_get, Bool, nat_lt, if◌then◌else◌, List, [], ◌∷◌, ◌++◌, Option, Some, None, is_some}
+use Rattle.std.specs.Prelude.{ℕ, ◌-◌, ◌*◌, ◌^◌, min, length, slice_get, Bool, nat_lt, if◌then◌else◌, List, [], ◌∷◌, ◌++◌, Option, Some, None, is_some}
 use Rattle.std.specs.Str.{bytes_eq}
+use Rattle.ak_base.specs.declared.limits.Limits.{Limits}
 use Rattle.ak_base.specs.declared.point.Point.{Point}
-use Rattle.ak_resp.specs.declared.message.Message.{Message}
-use Rattle.ak_resp.specs.declared.message.Message.TheVariants.{Put, Query}
-use Rattle.ak_top.specs.declared.store.Series.{Series}
+use Rattle.ak_base.specs.declared.refusal.Refusal.{Refusal}
+use Rattle.ak_base.specs.declared.refusal.Refusal.TheVariants.{Late, MetaFull}
+use Rattle.ak_view.specs.declared.series.Series.{Series}
+use Rattle.ak_view.specs.Payload.{need_of}
 
 -- the timestamp of the last point
 abbrev pub last_time : List Point → Option ℕ
@@ -32,14 +34,17 @@ late_behind (Some last) ts = if nat_lt ts last then Some last else None
 abbrev pub late_of : List Series → List ℕ → ℕ → Option ℕ
 late_of ss name ts = late_behind (last_of ss name) ts
 
--- A late point is refused and leaves the series as they are. Any other is accepted.
-abbrev pub after_put : List Series → List ℕ → Point → List Series
-after_put ss name p = if is_some (late_of ss name p.ts) then ss else with_point ss name p
+-- the bytes of a slot
+abbrev pub room_of : Limits → ℕ
+room_of limits = 4096 * limits.slot
 
-abbrev pub series_after : List Series → Message → List Series
-series_after ss (Put name time value) = after_put ss name (record { ts = time; value = value })
-series_after ss (Query metric) = ss
+-- Why a point is refused: with it the slot's payload would be longer than a slot, or, behind that, it is late.
+abbrev pub refusal_of : Limits → List Series → List ℕ → Point → Option Refusal
+refusal_of limits ss name p =
+    if nat_lt (room_of limits) (need_of limits (with_point ss name p))
+    then Some (MetaFull (min (need_of limits (with_point ss name p)) (2 ^ 64 - 1)) (room_of limits))
+    else option_map Late (late_of ss name p.ts)
 
-abbrev pub series_after_all : List Series → List Message → List Series
-series_after_all ss [] = ss
-series_after_all ss (m ∷ ms) = series_after_all (series_after ss m) ms
+-- A refused point leaves the series as they are. Any other is accepted.
+abbrev pub after_put : Limits → List Series → List ℕ → Point → List Series
+after_put limits ss name p = if is_some (refusal_of limits ss name p) then ss else with_point ss name p

@@ -1,11 +1,12 @@
 -- What stands told at a moment of a run, and what each status says of it.
-use Rattle.std.specs.Prelude.{ℕ, ◌≡◌, ◌⊎◌, ◌-◌, ◌^◌, ◌≤◌, ◌++◌, ◌∷◌, [], List, length, take}
+use Rattle.std.specs.Prelude.{ℕ, ◌≡◌, ◌⊎◌, ◌-◌, ◌^◌, ◌≤◌, ◌++◌, ◌∷◌, [], List, length, take, true}
 use Rattle.std.specs.List.{AllByRecursion}
 use Rattle.ak_base.specs.declared.stop.Stop.{Stop}
 use Rattle.ak_base.specs.Stops.{stop_text, status_of}
-use Rattle.ak_host.specs.Causes.{Rose}
 use Rattle.ak_host.specs.Marks.{Mark, Taken, piece, ended, idle, done, Telling, told_to}
-use Rattle.ak_top.specs.Run.{AreAnswers}
+use Rattle.ak_view.specs.Views.{View}
+use Rattle.ak_top.specs.Replies.{Reply}
+use Rattle.ak_top.specs.Run.{World, world_of, RunsFrom, AreAnswers}
 
 -- the list begins with these
 pub record Begins (front list : List ℕ) : Type 0 where
@@ -26,16 +27,16 @@ pub record IsBetween (least most told : List ℕ) : Type 0 where
 
 -- Where k turns were taken since, what each session's port was told begins with the answers to the first k - 1 turns,
 -- and the answers to all k begin with it.
-pub record IsAnswered (start mark : Mark) : Type 0 where
+pub record IsAnswered (view : View) (start mark : Mark) : Type 0 where
   pub since : Since start mark
   pub ports : (port : ℕ) → 1 ≤ port → (least : List ℕ) × (most : List ℕ)
-      × AreAnswers (take (length since.turns - 1) since.turns) port least × AreAnswers since.turns port most
+      × AreAnswers view (take (length since.turns - 1) since.turns) port least × AreAnswers view since.turns port most
       × IsBetween least most (told_to port since.tellings)
 
 -- each turn since is answered in full
-pub record IsComplete (start mark : Mark) : Type 0 where
+pub record IsComplete (view : View) (start mark : Mark) : Type 0 where
   pub since : Since start mark
-  pub ports : (port : ℕ) → 1 ≤ port → AreAnswers since.turns port (told_to port since.tellings)
+  pub ports : (port : ℕ) → 1 ≤ port → AreAnswers view since.turns port (told_to port since.tellings)
 
 abbrev pub IsDone : Taken → Type 0
 IsDone (piece port bytes) = ⊥
@@ -47,8 +48,8 @@ abbrev pub NoneDone : List Taken → Type 0
 NoneDone turns = AllByRecursion (λ turn. ¬ (IsDone turn)) turns
 
 -- Each turn since is answered in full, and the last of them, and no other, is `Done`.
-pub record EndsDone (start mark : Mark) : Type 0 where
-  pub complete : IsComplete start mark
+pub record EndsDone (view : View) (start mark : Mark) : Type 0 where
+  pub complete : IsComplete view start mark
   pub others : List Taken
   pub turns_are : complete.since.turns ≡ others ++ done ∷ []
   pub none_done : NoneDone others
@@ -59,39 +60,28 @@ pub record AreSpent (start mark : Mark) : Type 0 where
   pub count : length since.turns ≡ 2 ^ 32
   pub none_done : NoneDone since.turns
 
+-- The turns since have worn the store: a view was due, and the last has the greatest number of 64 bits.
+pub record IsWorn (view : View) (start mark : Mark) : Type 0 where
+  pub since : Since start mark
+  pub last : World
+  pub replies : List Reply
+  pub run : RunsFrom (world_of view) since.turns last replies
+  pub worn : last.content.worn ≡ true
+
 -- the console was told nothing so far
-pub record IsQuiet (start mark : Mark) : Type 0 where
-  pub answered : IsAnswered start mark
+pub record IsQuiet (view : View) (start mark : Mark) : Type 0 where
+  pub answered : IsAnswered view start mark
   pub console : told_to 0 answered.since.tellings ≡ []
 
 -- the line of the console for a stop
 abbrev pub line_of : Stop → List ℕ
 line_of stop = stop_text stop ++ 10 ∷ []
 
--- The console was told nothing, or the line of the status.
-abbrev pub OnConsole : ℕ → List ℕ → Type 0
-OnConsole status told = (told ≡ []) ⊎ ((stop : Stop) × (status_of stop ≡ status) × (told ≡ line_of stop))
+-- nothing, or the line of the status
+abbrev pub IsLine : ℕ → List ℕ → Type 0
+IsLine status told = (told ≡ []) ⊎ ((stop : Stop) × (status_of stop ≡ status) × (told ≡ line_of stop))
 
 -- at a moment of a call that ends with this status
-pub record IsTold (status : ℕ) (start mark : Mark) : Type 0 where
-  pub answered : IsAnswered start mark
-  pub console : OnConsole status (told_to 0 answered.since.tellings)
-
--- The console was told the line of the status. It is missing only for status 0, or where the count of faults rose.
-abbrev pub TellsLine : ℕ → ℕ → ℕ → List ℕ → Type 0
-TellsLine status before now told = ((status ≡ 0) × (told ≡ []))
-    ⊎ ((stop : Stop) × (status_of stop ≡ status) × ((told ≡ line_of stop) ⊎ ((told ≡ []) × Rose before now)))
-
--- as the call ends
-pub record HasConsole (status before now : ℕ) (start mark : Mark) : Type 0 where
-  pub since : Since start mark
-  pub line : TellsLine status before now (told_to 0 since.tellings)
-
--- the statuses that there are
-abbrev pub IsStatus : ℕ → Type 0
-IsStatus status = (status ≡ 0) ⊎ ((status ≡ 1) ⊎ ((status ≡ 4) ⊎ ((status ≡ 5) ⊎ (status ≡ 6))))
-
--- With no words, where no call of the ports failed, the turn Done ends the call with status 0, unless memory ran out or
--- Done isn't among the first 2 ^ 32 turns.
-abbrev pub IsFinished : ℕ → Mark → Mark → Type 0
-IsFinished status start mark = (status ≡ 0) ⊎ ((status ≡ 5) ⊎ AreSpent start mark)
+pub record IsTold (status : ℕ) (view : View) (start mark : Mark) : Type 0 where
+  pub answered : IsAnswered view start mark
+  pub console : IsLine status (told_to 0 answered.since.tellings)

@@ -1,29 +1,42 @@
 //! The series of the store, as lists in memory.
-ghost use Rattle.std.specs.Prelude.{◌≡◌, ◌++◌, ◌∷◌, [], IfOk, OnOk, Some, ◌==◌, position, IsSome, IsNone, ◌<◌, length, slice_index_or, slice_set};
-ghost use Rattle.ak_top.specs.declared.store.Series.{Series};
+ghost use Rattle.std.specs.Prelude.{ℕ, List, ◌≡◌, ◌++◌, ◌-◌, ◌^◌, min, IfOk, OnOk, ◌==◌, position};
 ghost use Rattle.std.specs.List.{flat_map};
+ghost use Rattle.std.specs.Option.{option_map};
 ghost use Rattle.std.specs.Str.{bytes_eq};
-ghost use Rattle.ak_top.specs.Store.{last_time, is_named, late_behind, late_of, after_put, series_after};
-ghost use Rattle.ak_top.specs.Replies.{metric_of, series_rows, rows_of, row_text, reply_to};
+ghost use Rattle.ak_base.specs.declared.point.Point.{Point};
+ghost use Rattle.ak_base.specs.declared.refusal.Refusal.{Refusal};
+ghost use Rattle.ak_view.specs.declared.series.Series.{Series};
+ghost use Rattle.ak_view.specs.Payload.{need_of};
+ghost use Rattle.ak_top.specs.Store.{last_time, is_named, late_behind, late_of, with_point, refusal_of, after_put};
+ghost use Rattle.ak_top.specs.Standing.{IsFit};
+ghost use Rattle.ak_top.specs.Replies.{metric_of, rows_of, row_text, bulk_reply, put_reply};
 
 use crate::replies::{write_bulk, write_refusal, write_row};
-use ak_base::{Bytes, Point, Refusal, Sequence};
-use ak_resp::Message;
+use ak_base::{Bytes, Limits, Point, Refusal, Sequence};
+use ak_view::Series;
 use std::alloc::{AllocError, Global};
-use std::marker::Model;
 
-/// A series: its name and its points.
-#[derive(Drop)]
-pub struct Series {
-    pub name: Bytes,
-    pub points: Sequence<Point>,
-}
+// The bytes of a slot that a point takes.
+const POINT_SIZE: u64 = 16;
+
+// The bytes of a slot that a series takes beside its name and its points.
+const SERIES_SIZE: u64 = 6;
 
 /// The last timestamp.
 fn last_of(points: &[Point]) -> Option<u64>
     ensures { result ≡ last_time points.now }
 {
     points.last().map(|point| point.ts)
+}
+
+/// The last timestamp, where this one is before it.
+fn last_behind(points: &[Point], time: u64) -> Option<u64>
+    ensures { result ≡ late_behind (last_time points.now) time }
+{
+    match last_of(points) {
+        Some(last) => { if time < last { Some(last) } else { None } }
+        None => None,
+    }
 }
 
 /// The place of the first space.
@@ -43,141 +56,159 @@ fn before_space(name: &[u8]) -> &[u8]
     }
 }
 
-impl Series {
-    /// Accepts a point, or answers the last timestamp where the point is before it.
-    fn accept(&mut self, alloc: Global, point: Point) -> Result<Option<u64>, AllocError>
-        ensures late { IfOk result (λ late. late ≡ late_behind (last_time self.old.points) point.ts) }
-        ensures name { OnOk result (self.new.name ≡ self.old.name) }
-        ensures refused { IfOk result (λ late. IsSome late → self.new ≡ self.old) }
-        ensures accepted { IfOk result (λ late. IsNone late → self.new.points ≡ self.old.points ++ point ∷ []) }
-    {
-        if let Some(last) = last_of(self.points.as_slice()) {
-            if point.ts < last {
-                return Ok(Some(last));
-            }
-        }
-        self.points.push(alloc, point)?;
-        Ok(None)
-    }
+/// Whether a name is of the metric.
+fn is_of(name: &[u8], metric: &[u8]) -> bool
+    ensures { result ≡ bytes_eq (metric_of name.now) metric.now }
+{
+    before_space(name) == metric
+}
 
-    /// Whether the name is of the metric.
-    fn is_of(&self, metric: &[u8]) -> bool
-        ensures { result ≡ bytes_eq (metric_of self.now.name) metric.now }
-    {
-        before_space(self.name.as_slice()) == metric
+/// Appends a row for each point.
+fn write_series(alloc: Global, series: &Series, text: &mut Bytes) -> Result<(), AllocError>
+    ensures { OnOk result (text.new ≡ text.old ++ flat_map (row_text series.now.name) series.now.points) }
+{
+    for point in series.points.as_slice() {
+        write_row(alloc, series.name.as_slice(), *point, text)?;
     }
+    Ok(())
+}
 
-    /// Appends a row for each point.
-    fn write(&self, alloc: Global, text: &mut Bytes) -> Result<(), AllocError>
-        ensures { OnOk result (text.new ≡ text.old ++ flat_map (row_text self.now.name) self.now.points) }
-    {
-        for point in self.points.as_slice() {
-            write_row(alloc, self.name.as_slice(), *point, text)?;
+/// Appends the rows of each series of this metric.
+fn write_rows(
+    alloc: Global,
+    all: &[Series],
+    metric: &[u8],
+    text: &mut Bytes,
+) -> Result<(), AllocError>
+    ensures { OnOk result (text.new ≡ text.old ++ rows_of all.now metric.now) }
+{
+    for series in all {
+        if is_of(series.name.as_slice(), metric) {
+            write_series(alloc, series, text)?;
         }
-        Ok(())
+    }
+    Ok(())
+}
+
+/// The place of the series of this name.
+fn find(all: &[Series], name: &[u8]) -> Option<usize>
+    ensures { result ≡ position (is_named name.now) all.now }
+{
+    all.iter().position(|series| series.name.as_slice() == name)
+}
+
+/// Why a timestamp is refused behind the points of the series in this place.
+fn late_at(all: &[Series], at: Option<usize>, name: &[u8], time: u64) -> Option<Refusal>
+    requires { at ≡ position (is_named name.now) all.now }
+    ensures { result ≡ option_map Refusal.Late (late_of all.now name.now time) }
+{
+    let place = at?;
+    match last_behind(all[place].points.as_slice(), time) {
+        Some(last) => Some(Refusal::Late { last }),
+        None => None,
     }
 }
 
-/// The series, by order of first acceptance.
+/// Accepts a point of the series of this name, which stands in this place.
+fn put_at(
+    alloc: Global,
+    all: &mut Vec<Series>,
+    at: Option<usize>,
+    name: Bytes,
+    point: Point,
+) -> Result<(), AllocError>
+    requires { at ≡ position (is_named name) all.old.items }
+    ensures { OnOk result (all.new.items ≡ with_point all.old.items name point) }
+{
+    match at {
+        Some(place) => all[place].points.push(alloc, point),
+        None => {
+            let mut points = Sequence::new(alloc);
+            points.push(alloc, point)?;
+            all.push(Series { name, points })?;
+            Ok(())
+        }
+    }
+}
+
+/// The bytes of a slot that series of this size take with a point more, or the greatest number where they are more.
+fn need_with(size: u64, at: Option<usize>, name: &[u8]) -> u64
+    ensures { (limits : Limits) (all : List Series) (p : Point) → size ≡ need_of limits all → at ≡ position (is_named name.now) all
+        → result ≡ min (need_of limits (with_point all name.now p)) (2 ^ 64 - 1) }
+{
+    let more = match at {
+        Some(_) => POINT_SIZE,
+        None => (name.len() as u64).saturating_add(SERIES_SIZE + POINT_SIZE),
+    };
+    size.saturating_add(more)
+}
+
+/// The limits of the store, its series by order of first acceptance, and the bytes of a slot that they take.
 #[derive(Drop)]
 pub struct Store {
-    series: Vec<Series>,
-}
-
-impl Model for Store {
-    ghost use Rattle.std.specs.Prelude.{List};
-    ghost use Rattle.ak_top.specs.declared.store.Series.{Series};
-
-    ghost Value = { List Series };
-
-    ghost view = { λ s. s.series.items };
+    pub limits: Limits,
+    pub series: Vec<Series>,
+    pub size: u64,
 }
 
 impl Store {
-    /// A store without series.
-    pub fn new(alloc: Global) -> Store
-        ensures { result ≡ [] }
+    ghost use Rattle.ak_base.specs.declared.limits.Limits.{Limits};
+
+    /// Accepts a point, or answers why it is refused: with it the series need more than a slot has, or it is late.
+    pub fn put(
+        &mut self,
+        alloc: Global,
+        name: Bytes,
+        point: Point,
+    ) -> Result<Option<Refusal>, AllocError>
+        requires { IsFit self.old }
+        ensures limits { self.new.limits ≡ self.old.limits }
+        ensures fit { OnOk result (IsFit self.new) }
+        ensures refusal { IfOk result (λ refusal. refusal ≡ refusal_of self.old.limits self.old.series.items name point) }
+        ensures after { OnOk result (self.new.series.items ≡ after_put self.old.limits self.old.series.items name point) }
     {
-        Store {
-            series: Vec::new(alloc),
+        let at = find(self.series.as_slice(), name.as_slice());
+        let need = need_with(self.size, at, name.as_slice());
+        let room = 4096 * u64::from(self.limits.slot);
+        if need > room {
+            return Ok(Some(Refusal::MetaFull { need, room }));
         }
-    }
-
-    /// The place of the series of this name.
-    fn find(&self, name: &[u8]) -> Option<usize>
-        ensures { result ≡ position (is_named name.now) self.now }
-    {
-        self.series
-            .iter()
-            .position(|series| series.name.as_slice() == name)
-    }
-
-    /// Accepts a point of the series in this place, or answers its last timestamp where the point is before it.
-    fn put_at(&mut self, alloc: Global, at: usize, point: Point) -> Result<Option<u64>, AllocError>
-        requires { at < length self.old }
-        ensures late { IfOk result (λ late. (d : Series) → late ≡ late_behind (last_time (slice_index_or self.old at d).points) point.ts) }
-        ensures refused { IfOk result (λ late. IsSome late → self.new ≡ self.old) }
-        ensures accepted { IfOk result (λ late. IsNone late → (d : Series) → self.new ≡ slice_set self.old at
-            (record { name = (slice_index_or self.old at d).name; points = (slice_index_or self.old at d).points ++ point ∷ [] })) }
-    {
-        self.series[at].accept(alloc, point)
-    }
-
-    /// Accepts the first point of a new series.
-    fn put_new(&mut self, alloc: Global, name: Bytes, point: Point) -> Result<(), AllocError>
-        ensures { OnOk result (self.new ≡ self.old ++ (record { name = name; points = point ∷ [] }) ∷ []) }
-    {
-        let mut points = Sequence::new(alloc);
-        points.push(alloc, point)?;
-        self.series.push(Series { name, points })?;
-        Ok(())
-    }
-
-    /// Accepts a point, or answers the last timestamp of its series where the point is before it.
-    fn put(&mut self, alloc: Global, name: Bytes, point: Point) -> Result<Option<u64>, AllocError>
-        ensures late { IfOk result (λ late. late ≡ late_of self.old name point.ts) }
-        ensures after { OnOk result (self.new ≡ after_put self.old name point) }
-    {
-        match self.find(name.as_slice()) {
-            Some(at) => self.put_at(alloc, at, point),
-            None => {
-                self.put_new(alloc, name, point)?;
-                Ok(None)
-            }
+        if let Some(refusal) = late_at(self.series.as_slice(), at, name.as_slice(), point.ts) {
+            return Ok(Some(refusal));
         }
+        put_at(alloc, &mut self.series, at, name, point)?;
+        self.size = need;
+        Ok(None)
     }
 
-    /// Appends the rows of each series of this metric.
-    fn write_rows(&self, alloc: Global, metric: &[u8], text: &mut Bytes) -> Result<(), AllocError>
-        ensures { OnOk result (text.new ≡ text.old ++ rows_of self.now metric.now) }
-    {
-        for series in &self.series {
-            if series.is_of(metric) {
-                series.write(alloc, text)?;
-            }
-        }
-        Ok(())
-    }
-
-    /// Acts on a message, and gives what the session is told.
-    pub fn act(&mut self, alloc: Global, message: Message) -> Result<Bytes, AllocError>
-        ensures after { OnOk result (self.new ≡ series_after self.old message) }
-        ensures reply { IfOk result (λ reply. reply ≡ reply_to self.old message) }
+    /// What a put is answered: nothing where its point is accepted.
+    pub fn answer_put(
+        &mut self,
+        alloc: Global,
+        name: Bytes,
+        point: Point,
+    ) -> Result<Bytes, AllocError>
+        requires { IsFit self.old }
+        ensures limits { self.new.limits ≡ self.old.limits }
+        ensures fit { OnOk result (IsFit self.new) }
+        ensures reply { IfOk result (λ reply. reply ≡ put_reply (refusal_of self.old.limits self.old.series.items name point)) }
+        ensures after { OnOk result (self.new.series.items ≡ after_put self.old.limits self.old.series.items name point) }
     {
         let mut reply = Bytes::new(alloc);
-        match message {
-            Message::Put { name, time, value } => {
-                let point = Point { ts: time, value };
-                if let Some(last) = self.put(alloc, name, point)? {
-                    write_refusal(alloc, Refusal::Late { last }, &mut reply)?;
-                }
-            }
-            Message::Query { metric } => {
-                let mut text = Bytes::new(alloc);
-                self.write_rows(alloc, metric.as_slice(), &mut text)?;
-                write_bulk(alloc, text.as_slice(), &mut reply)?;
-            }
+        if let Some(refusal) = self.put(alloc, name, point)? {
+            write_refusal(alloc, refusal, &mut reply)?;
         }
+        Ok(reply)
+    }
+
+    /// What a query of this metric is answered.
+    pub fn answer_query(&self, alloc: Global, metric: &[u8]) -> Result<Bytes, AllocError>
+        ensures { IfOk result (λ reply. reply ≡ bulk_reply (rows_of self.now.series.items metric.now)) }
+    {
+        let mut text = Bytes::new(alloc);
+        write_rows(alloc, self.series.as_slice(), metric, &mut text)?;
+        let mut reply = Bytes::new(alloc);
+        write_bulk(alloc, text.as_slice(), &mut reply)?;
         Ok(reply)
     }
 }

@@ -1,30 +1,63 @@
 //! The top call.
-ghost use Rattle.std.specs.Prelude.{◌≡◌, ◌≢◌, ◌⊎◌, ◌↔◌, ◌≤◌, [], OnOk, OnErr, IfErr};
+ghost use Rattle.std.specs.Prelude.{◌≡◌, ◌≢◌, ◌⊎◌, ◌↔◌, ◌≤◌, [], map, string_bytes, OnOk, IfOk, IfErr, None};
+ghost use Rattle.ak_base.specs.declared.limits.Limits.{Limits};
+ghost use Rattle.ak_base.specs.Ranges.{AreLimits};
 ghost use Rattle.ak_base.specs.Stops.{status_of};
 ghost use Rattle.ak_host.specs.Causes.{Rose};
-ghost use Rattle.ak_host.specs.Moments.{PortPasses, HoldsFrom, LeavesNow, mark_now};
-ghost use Rattle.ak_top.specs.Calls.{Told, HasStops, HasServeStops, HasTold, OnBudget};
-ghost use Rattle.ak_top.specs.Told.{IsAnswered, IsComplete, EndsDone, AreSpent, IsTold, HasConsole, IsStatus, IsFinished, line_of, IsQuiet};
+ghost use Rattle.ak_host.specs.Files.{Files};
+ghost use Rattle.ak_host.specs.Moments.{Passes, PortPasses, DiskPasses, HoldsFrom, LeavesNow, mark_now};
+ghost use Rattle.ak_view.specs.Stops.{IsNoStore, IsTaken, IsMakeStop, IsOpenStop};
+ghost use Rattle.ak_view.specs.Views.{View, StandsFor, first_view};
+ghost use Rattle.ak_words.specs.Words.{IsCommand};
+ghost use Rattle.ak_top.specs.Calls.{Told, IsSilent, HasServeStops, HasTold, OnStop, IsBudget, IsWornStop};
+ghost use Rattle.ak_top.specs.Commands.{IsRun, Creates, Makes, Serves, Opens, AreFree, IsMaking, LeavesBefore, scratch_limits};
+ghost use Rattle.ak_top.specs.Ends.{EndsBy, IsEnd, IsOneOf, IsOwn, IsRunStop, IsScratchStop, OnlyBy, IsMissing, IsThere, IsRefused, IsServing, IsServingOrThere, IsExists, HasServed, IsFinished};
+ghost use Rattle.ak_top.specs.Kept.{IsKept, KeepsFrom, KeepsLast};
+ghost use Rattle.ak_top.specs.Run.{world_of};
+ghost use Rattle.ak_top.specs.Standing.{IsReady, Stands};
+ghost use Rattle.ak_top.specs.Told.{IsComplete, EndsDone, AreSpent, IsWorn, IsTold, line_of, IsQuiet};
 
+use crate::keeper::Keeper;
 use crate::node::{Node, Went};
-use ak_base::Stop;
-use ak_host::Ports;
+use crate::store::Store;
+use ak_base::{Limits, Stop};
+use ak_gate::Gate;
+use ak_host::{Disk, Host, Ports};
+use ak_view::{make_store, open_newest, sync_all};
+use ak_words::{Command, WordsError, read_words};
 use std::alloc::Global;
 
 // How many turns a call takes at most.
 const TURNS: u64 = 1 << 32;
 
+// The bytes of a slot that a store without series takes.
+const EMPTY_SIZE: u64 = 48;
+
 /// Takes turns up to the last, and answers each.
-fn serve<P: Ports>(alloc: Global, ports: &mut P) -> Result<(), Stop>
-    ensures cause { HasServeStops (P.state ports.old).port_faults (P.state ports.new).port_faults result }
-    ensures done { P.tells → OnOk result (EndsDone (mark_now (P.state ports.old)) (mark_now (P.state ports.new))) }
-    ensures spent { P.tells → OnBudget result (AreSpent (mark_now (P.state ports.old)) (mark_now (P.state ports.new))) }
-    ensures complete { P.tells → OnBudget result (IsComplete (mark_now (P.state ports.old)) (mark_now (P.state ports.new))) }
-    ensures moments { P.tells → PortPasses (IsQuiet (mark_now (P.state ports.old))) (P.state ports.old) (P.state ports.new) }
+fn serve<H: Host>(alloc: Global, host: &mut H, node: Node) -> Result<(), Stop>
+    requires ready { IsReady H.tells node.keeper (H.state host.old) }
+    ensures cause { HasServeStops (H.state host.old) (H.state host.new) result }
+    ensures silent { H.tells → IsSilent (H.state host.old) (H.state host.new) }
+    ensures spent { H.tells → (view : View) → Stands node (world_of view) (H.state host.old)
+        → OnStop IsBudget result (AreSpent (mark_now (H.state host.old)) (mark_now (H.state host.new))) }
+    ensures done { H.tells → (view : View) → Stands node (world_of view) (H.state host.old)
+        → OnOk result (EndsDone view (mark_now (H.state host.old)) (mark_now (H.state host.new))) }
+    ensures kept { H.tells → (view : View) → Stands node (world_of view) (H.state host.old)
+        → OnOk result (KeepsLast view (mark_now (H.state host.old)) (mark_now (H.state host.new)) (H.state host.new)) }
+    ensures complete { H.tells → (view : View) → Stands node (world_of view) (H.state host.old)
+        → OnStop IsBudget result (IsComplete view (mark_now (H.state host.old)) (mark_now (H.state host.new))) }
+    ensures worn { H.tells → (view : View) → Stands node (world_of view) (H.state host.old)
+        → OnStop IsWornStop result (IsWorn view (mark_now (H.state host.old)) (mark_now (H.state host.new))) }
+    ensures fresh { H.tells → (view : View) → Stands node (world_of view) (H.state host.old)
+        → OnOk result (¬ (IsWorn view (mark_now (H.state host.old)) (mark_now (H.state host.new)))) }
+    ensures fresh_spent { H.tells → (view : View) → Stands node (world_of view) (H.state host.old)
+        → OnStop IsBudget result (¬ (IsWorn view (mark_now (H.state host.old)) (mark_now (H.state host.new)))) }
+    ensures moments { H.tells → (view : View) → Stands node (world_of view) (H.state host.old)
+        → Passes (IsQuiet view (mark_now (H.state host.old))) (IsKept view (mark_now (H.state host.old))) (H.state host.old) (H.state host.new) }
 {
-    let mut node = Node::new(alloc);
+    let mut node = node;
     for _turn in 0..TURNS {
-        match node.turn(alloc, ports) {
+        match node.turn(alloc, host) {
             Ok(Went::More) => {}
             Ok(Went::Done) => return Ok(()),
             Err(stop) => return Err(stop),
@@ -33,10 +66,148 @@ fn serve<P: Ports>(alloc: Global, ports: &mut P) -> Result<(), Stop>
     Err(Stop::Budget)
 }
 
+/// The node of the newest view that the disk has. Each file is synced first.
+fn open_store<D: Disk>(alloc: Global, disk: &mut D) -> Result<Node, Stop>
+    ensures err { IfErr result (IsOpenStop D.tells (D.state disk.old) (D.state disk.new)) }
+    ensures no_store { D.tells → IsNoStore (D.state disk.old).files → IfOk result (λ node. ⊥) }
+    ensures ready { IfOk result (λ node. IsReady D.tells node.keeper (D.state disk.new)) }
+    ensures stands { D.tells → (view : View) → StandsFor view (D.state disk.old).files → IfOk result (λ node. Stands node (world_of view) (D.state disk.new)) }
+    ensures moments { D.tells → DiskPasses (LeavesNow (D.state disk.old)) (D.state disk.old) (D.state disk.new) }
+    ensures disk_later { (D.state disk.old).disk_faults ≤ (D.state disk.new).disk_faults }
+    ensures port_faults { (D.state disk.new).port_faults ≡ (D.state disk.old).port_faults }
+{
+    if disk.files() == 0 {
+        return Err(Stop::NoStore);
+    }
+    sync_all(disk)?;
+    let opened = open_newest(alloc, disk)?;
+    Ok(Node {
+        keeper: Keeper {
+            gate: opened.gate,
+            store: Store {
+                limits: opened.limits,
+                series: opened.series,
+                size: opened.size,
+            },
+        },
+        session: None,
+    })
+}
+
+/// The node of a store that was just made.
+fn first_node(alloc: Global, gate: Gate, limits: Limits) -> Node
+    ensures limits { result.keeper.store.limits ≡ limits }
+    ensures series { result.keeper.store.series.items ≡ [] }
+    ensures size { result.keeper.store.size ≡ 48 }
+    ensures gate { result.keeper.gate ≡ gate }
+    ensures session { result.session ≡ None }
+{
+    Node {
+        keeper: Keeper {
+            gate,
+            store: Store {
+                limits,
+                series: Vec::new(alloc),
+                size: EMPTY_SIZE,
+            },
+        },
+        session: None,
+    }
+}
+
+/// Opens the store, and serves it.
+fn run<H: Host>(alloc: Global, host: &mut H) -> Result<(), Stop>
+    ensures cause { IfErr result (IsRunStop H.tells (H.state host.old) (H.state host.new)) }
+    ensures disk_later { (H.state host.old).disk_faults ≤ (H.state host.new).disk_faults }
+    ensures port_later { (H.state host.old).port_faults ≤ (H.state host.new).port_faults }
+    ensures no_store { H.tells → IsNoStore (H.state host.old).files → OnlyBy IsMissing result }
+    ensures silent { H.tells → IsSilent (H.state host.old) (H.state host.new) }
+    ensures quiet { H.tells → (view : View) → StandsFor view (H.state host.old).files
+        → Passes (IsQuiet view (mark_now (H.state host.old))) (λ mark disk. Unit {0}) (H.state host.old) (H.state host.new) }
+    ensures served { H.tells → (view : View) → StandsFor view (H.state host.old).files → HasServed view (mark_now (H.state host.old)) (H.state host.new) result }
+    ensures sound { H.tells → (view : View) → StandsFor view (H.state host.old).files → IfErr result IsServing }
+    ensures stands { H.tells → (view : View) → StandsFor view (H.state host.old).files
+        → KeepsFrom view (LeavesNow (H.state host.old)) (H.state host.old) (H.state host.new) }
+{
+    let node = open_store(alloc, host)?;
+    serve(alloc, host, node)
+}
+
+/// Makes a store, and serves it.
+fn scratch<H: Host>(alloc: Global, host: &mut H) -> Result<(), Stop>
+    ensures cause { IfErr result (IsScratchStop H.tells (H.state host.old) (H.state host.new)) }
+    ensures disk_later { (H.state host.old).disk_faults ≤ (H.state host.new).disk_faults }
+    ensures port_later { (H.state host.old).port_faults ≤ (H.state host.new).port_faults }
+    ensures exists { H.tells → IsTaken (H.state host.old).files → OnlyBy IsThere result }
+    ensures silent { H.tells → IsSilent (H.state host.old) (H.state host.new) }
+    ensures quiet { H.tells → Passes (IsQuiet (first_view scratch_limits) (mark_now (H.state host.old))) (λ mark disk. Unit {0}) (H.state host.old) (H.state host.new) }
+    ensures there { H.tells → OnStop IsExists result (mark_now (H.state host.new) ≡ mark_now (H.state host.old)) }
+    ensures served { H.tells → HasServed (first_view scratch_limits) (mark_now (H.state host.old)) (H.state host.new) result }
+    ensures sound { IfErr result IsServingOrThere }
+    ensures stands { H.tells → KeepsFrom (first_view scratch_limits) (λ disk. AreFree (H.state host.old) → IsMaking scratch_limits disk)
+        (H.state host.old) (H.state host.new) }
+{
+    let limits = Limits::SCRATCH;
+    let gate = make_store(alloc, host, &limits)?;
+    serve(alloc, host, first_node(alloc, gate, limits))
+}
+
+/// Makes a store.
+fn create<D: Disk>(alloc: Global, disk: &mut D, limits: Limits) -> Result<(), Stop>
+    requires { AreLimits limits }
+    ensures err { IfErr result (IsMakeStop D.tells (D.state disk.old) (D.state disk.new)) }
+    ensures exists { D.tells → IsTaken (D.state disk.old).files → OnlyBy IsThere result }
+    ensures moments { D.tells → AreFree (D.state disk.old) → DiskPasses (IsMaking limits) (D.state disk.old) (D.state disk.new) }
+    ensures mark { D.tells → DiskPasses (λ left. Unit {0}) (D.state disk.old) (D.state disk.new) }
+    ensures made { D.tells → OnOk result ((left : Files) → LeavesNow (D.state disk.new) left → StandsFor (first_view limits) left) }
+    ensures disk_later { (D.state disk.old).disk_faults ≤ (D.state disk.new).disk_faults }
+    ensures port_faults { (D.state disk.new).port_faults ≡ (D.state disk.old).port_faults }
+{
+    make_store(alloc, disk, &limits)?;
+    Ok(())
+}
+
+/// Does what the words ask for.
+fn perform<H: Host>(alloc: Global, words: &[String], host: &mut H) -> Result<(), Stop>
+    ensures cause { IfErr result (IsEnd (map string_bytes words.now) H.tells (H.state host.old) (H.state host.new)) }
+    ensures disk_later { (H.state host.old).disk_faults ≤ (H.state host.new).disk_faults }
+    ensures port_later { (H.state host.old).port_faults ≤ (H.state host.new).port_faults }
+    ensures usage { ¬ (IsCommand (map string_bytes words.now)) → OnlyBy IsRefused result }
+    ensures no_store { H.tells → IsRun (map string_bytes words.now) → IsNoStore (H.state host.old).files → OnlyBy IsMissing result }
+    ensures exists { H.tells → (limits : Limits) → Makes (map string_bytes words.now) limits → IsTaken (H.state host.old).files → OnlyBy IsThere result }
+    ensures silent { H.tells → IsSilent (H.state host.old) (H.state host.new) }
+    ensures quiet { H.tells → (view : View) → Opens (map string_bytes words.now) (H.state host.old) view
+        → Passes (IsQuiet view (mark_now (H.state host.old))) (λ mark disk. Unit {0}) (H.state host.old) (H.state host.new) }
+    ensures idle { H.tells → ¬ (Serves (map string_bytes words.now)) → mark_now (H.state host.new) ≡ mark_now (H.state host.old) }
+    ensures there { H.tells → OnStop IsExists result (mark_now (H.state host.new) ≡ mark_now (H.state host.old)) }
+    ensures served { H.tells → (view : View) → Opens (map string_bytes words.now) (H.state host.old) view → Serves (map string_bytes words.now)
+        → HasServed view (mark_now (H.state host.old)) (H.state host.new) result }
+    ensures sound { H.tells → (view : View) → Opens (map string_bytes words.now) (H.state host.old) view → Serves (map string_bytes words.now)
+        → IfErr result IsServingOrThere }
+    ensures stands { H.tells → (view : View) → Opens (map string_bytes words.now) (H.state host.old) view → Serves (map string_bytes words.now)
+        → KeepsFrom view (LeavesBefore (map string_bytes words.now) (H.state host.old)) (H.state host.old) (H.state host.new) }
+    ensures creating { H.tells → (limits : Limits) → Creates (map string_bytes words.now) limits → AreFree (H.state host.old)
+        → DiskPasses (IsMaking limits) (H.state host.old) (H.state host.new) }
+    ensures created { H.tells → (limits : Limits) → Creates (map string_bytes words.now) limits
+        → OnOk result ((left : Files) → LeavesNow (H.state host.new) left → StandsFor (first_view limits) left) }
+    ensures making { (limits : Limits) → Creates (map string_bytes words.now) limits → IfErr result IsThere }
+{
+    match read_words(alloc, words) {
+        Ok(job) => match job.command {
+            Command::Create(limits) => create(alloc, host, limits),
+            Command::Run => run(alloc, host),
+            Command::Scratch => scratch(alloc, host),
+        },
+        Err(WordsError::Usage) => Err(Stop::Usage),
+        Err(WordsError::Memory) => Err(Stop::Memory),
+    }
+}
+
 /// Tells the console the line of a stop, and gives its status. A failure of this telling is ignored.
 fn fail<P: Ports>(ports: &mut P, stop: Stop) -> u8
     ensures status { result ≡ status_of stop }
     ensures later { (P.state ports.old).port_faults ≤ (P.state ports.new).port_faults }
+    ensures disk_faults { (P.state ports.new).disk_faults ≡ (P.state ports.old).disk_faults }
     ensures told { P.tells → HasTold (P.state ports.old).port_faults (P.state ports.new).port_faults
         (mark_now (P.state ports.old)) (mark_now (P.state ports.new)) (line_of stop) }
     ensures moments { P.tells → PortPasses (λ mark. (mark ≡ mark_now (P.state ports.old))
@@ -49,32 +220,52 @@ fn fail<P: Ports>(ports: &mut P, stop: Stop) -> u8
 
 /// Reads the words, does the command, and answers the status.
 ///
-/// With no words it answers the turns that the host gives up to `Done`, 2^32 of them at most: points and queries of
-/// port 1. The status is 0 where `Done` was reached, 1 where there is a word, 4 where a call of the ports failed, 5
-/// where there is no memory, and 6 where all turns are spent. Port 0 is told the line of a status other than 0.
-pub fn akl<P: Ports>(alloc: Global, words: &[String], ports: &mut P) -> u8
-    ensures statuses { IsStatus result }
-    ensures usage { (result ≡ 1) ↔ (words.now ≢ []) }
-    ensures port { result ≡ 4 → Rose (P.state ports.old).port_faults (P.state ports.new).port_faults }
-    ensures later { (P.state ports.old).port_faults ≤ (P.state ports.new).port_faults }
+/// `create DIR` with pairs `--x N` makes a store, `run DIR` serves one, and with no words one is made with the limits of a
+/// store in memory and served: 2^32 turns are answered at most, up to `Done`. The status is 0 where the command was done,
+/// 1 where the words are no command, 2 where the store is damaged, 3 where a call of the disk failed, 4 where one of the
+/// ports failed, 5 where there is no memory, 6 where all turns are spent, 7 where the store is worn, 8 where there is no
+/// store, and 9 where there is one already. Port 0 is told the line of a status other than 0.
+pub fn akl<H: Host>(alloc: Global, words: &[String], host: &mut H) -> u8
+    ensures ends { EndsBy (map string_bytes words.now) H.tells (H.state host.old) (H.state host.new) result }
+    ensures disk_later { (H.state host.old).disk_faults ≤ (H.state host.new).disk_faults }
+    ensures port_later { (H.state host.old).port_faults ≤ (H.state host.new).port_faults }
+    ensures usage { ¬ (IsCommand (map string_bytes words.now)) → (result ≡ 1) ⊎ (result ≡ 5) }
+    ensures no_store { H.tells → IsRun (map string_bytes words.now) → IsNoStore (H.state host.old).files → IsOneOf 8 3 5 result }
+    ensures exists { H.tells → (limits : Limits) → Makes (map string_bytes words.now) limits → IsTaken (H.state host.old).files → IsOneOf 9 3 5 result }
 
     // At each moment of the call, what was told are the answers to the turns so far.
-    ensures told { P.tells → HoldsFrom (P.state ports.old).moment (IsTold result (mark_now (P.state ports.old)))
-        (λ mark disk. LeavesNow (P.state ports.old) disk) (P.state ports.new) }
-    ensures done { P.tells → result ≡ 0 → EndsDone (mark_now (P.state ports.old)) (mark_now (P.state ports.new)) }
-    ensures spent { P.tells → result ≡ 6 → IsComplete (mark_now (P.state ports.old)) (mark_now (P.state ports.new)) }
-    ensures budget { P.tells → (result ≡ 6)
-        ↔ (AreSpent (mark_now (P.state ports.old)) (mark_now (P.state ports.new)) × (result ≢ 4) × (result ≢ 5)) }
-    ensures console { P.tells → HasConsole result (P.state ports.old).port_faults (P.state ports.new).port_faults
-        (mark_now (P.state ports.old)) (mark_now (P.state ports.new)) }
-    ensures complete { P.tells → words.now ≡ [] → ¬ (Rose (P.state ports.old).port_faults (P.state ports.new).port_faults)
-        → IsFinished result (mark_now (P.state ports.old)) (mark_now (P.state ports.new)) }
+    ensures told { H.tells → (view : View) → Opens (map string_bytes words.now) (H.state host.old) view
+        → HoldsFrom (H.state host.old).moment (IsTold result view (mark_now (H.state host.old))) (λ mark disk. Unit {0}) (H.state host.new) }
+    ensures done { H.tells → (view : View) → Opens (map string_bytes words.now) (H.state host.old) view → Serves (map string_bytes words.now)
+        → result ≡ 0 → EndsDone view (mark_now (H.state host.old)) (mark_now (H.state host.new)) }
+    ensures spent { H.tells → (view : View) → Opens (map string_bytes words.now) (H.state host.old) view
+        → result ≡ 6 → IsComplete view (mark_now (H.state host.old)) (mark_now (H.state host.new)) }
+    ensures budget { H.tells → (view : View) → Opens (map string_bytes words.now) (H.state host.old) view
+        → (result ≡ 6) ↔ (AreSpent (mark_now (H.state host.old)) (mark_now (H.state host.new)) × IsOwn result × (result ≢ 7)) }
+    ensures worn { H.tells → (view : View) → Opens (map string_bytes words.now) (H.state host.old) view
+        → (result ≡ 7) ↔ (Serves (map string_bytes words.now) × IsWorn view (mark_now (H.state host.old)) (mark_now (H.state host.new)) × IsOwn result) }
+
+    // At each moment from the opening on, each disk that a stop leaves is sound and stands for a view of the run.
+    ensures stands { H.tells → (view : View) → Opens (map string_bytes words.now) (H.state host.old) view → Serves (map string_bytes words.now)
+        → KeepsFrom view (LeavesBefore (map string_bytes words.now) (H.state host.old)) (H.state host.old) (H.state host.new) }
+    ensures last { H.tells → (view : View) → Opens (map string_bytes words.now) (H.state host.old) view → Serves (map string_bytes words.now)
+        → result ≡ 0 → KeepsLast view (mark_now (H.state host.old)) (mark_now (H.state host.new)) (H.state host.new) }
+    // While a store is made, a stop leaves none, or its first view.
+    ensures creating { H.tells → (limits : Limits) → Creates (map string_bytes words.now) limits → AreFree (H.state host.old)
+        → HoldsFrom (H.state host.old).moment (λ mark. Unit {0}) (λ mark disk. IsMaking limits disk) (H.state host.new) }
+    ensures created { H.tells → (limits : Limits) → Creates (map string_bytes words.now) limits → result ≡ 0
+        → (left : Files) → LeavesNow (H.state host.new) left → StandsFor (first_view limits) left }
+
+    // Where no call of the outside failed, the command is done.
+    ensures complete { H.tells → (view : View) → Opens (map string_bytes words.now) (H.state host.old) view → Serves (map string_bytes words.now)
+        → (map string_bytes words.now ≡ [] → ¬ (IsTaken (H.state host.old).files))
+        → ¬ (Rose (H.state host.old).disk_faults (H.state host.new).disk_faults) → ¬ (Rose (H.state host.old).port_faults (H.state host.new).port_faults)
+        → IsFinished result view (mark_now (H.state host.old)) (mark_now (H.state host.new)) }
+    ensures complete_create { H.tells → (limits : Limits) → Creates (map string_bytes words.now) limits → ¬ (IsTaken (H.state host.old).files)
+        → ¬ (Rose (H.state host.old).disk_faults (H.state host.new).disk_faults) → (result ≡ 0) ⊎ (result ≡ 5) }
 {
-    if !words.is_empty() {
-        return fail(ports, Stop::Usage);
-    }
-    match serve(alloc, ports) {
+    match perform(alloc, words, host) {
         Ok(()) => 0,
-        Err(stop) => fail(ports, stop),
+        Err(stop) => fail(host, stop),
     }
 }

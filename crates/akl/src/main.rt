@@ -1,4 +1,4 @@
-//! The program: its words, standard input and standard output, and its status.
+//! The program: its words, its files, standard input and standard output, and its status.
 #![tactic(auto)]
 
 mod real;
@@ -7,7 +7,9 @@ mod tests;
 
 use crate::real::RealHost;
 use ak_top::akl;
+use ak_words::{Command, WordsError, read_words};
 use std::alloc::{AllocError, Global};
+use std::io::{Stdin, Stdout};
 use std::process::ExitCode;
 use std::rt::Env;
 use std::{env, io};
@@ -31,11 +33,28 @@ fn words_of<R: Env + AllocGlobal>(rt: &R, alloc: Global) -> Result<Vec<String>, 
     Ok(words)
 }
 
+// The host that the words ask for: over the directory of a command, and over files in memory where there is none.
+fn host_of(rt: HostRuntime, words: &[String]) -> Result<RealHost<Stdin, Stdout>, AllocError> {
+    let alloc = rt.alloc();
+    let (input, output) = (rt.stdin(), rt.stdout());
+    match read_words(alloc, words) {
+        Ok(job) => match job.command {
+            Command::Create(_) => RealHost::in_directory(rt, job.dir.as_str(), input, output),
+            Command::Run => RealHost::in_directory(rt, job.dir.as_str(), input, output),
+            Command::Scratch => Ok(RealHost::in_memory(alloc, input, output)),
+        },
+        Err(WordsError::Usage) => Ok(RealHost::in_memory(alloc, input, output)),
+        Err(WordsError::Memory) => Err(AllocError),
+    }
+}
+
 fn main(rt: HostRuntime) -> ExitCode {
     let alloc = rt.alloc();
     let Ok(words) = words_of(&rt, alloc) else {
         return ExitCode::from(5);
     };
-    let mut host = RealHost::new(rt.stdin(), rt.stdout());
+    let Ok(mut host) = host_of(rt, words.as_slice()) else {
+        return ExitCode::from(5);
+    };
     ExitCode::from(akl(alloc, words.as_slice(), &mut host))
 }

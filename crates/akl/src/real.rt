@@ -1,31 +1,112 @@
-//! A host over standard input and output.
-ghost use Rattle.std.specs.Prelude.{◌≡◌, ◌≤◌, []};
-ghost use Rattle.ak_host.specs.Causes.{Rose};
+//! A host over the real outside: files in a directory or in memory, and standard input and output.
+ghost use Rattle.std.specs.Prelude.{◌≡◌, ◌≤◌, ◌<◌, ◌^◌, [], length, Ok, IfOk, OnOk};
+ghost use Rattle.ak_host.specs.Causes.{HasCause, Rose};
 
-use ak_host::{Block, Failed, Outside, Ports, Turn};
-use std::io::{ErrorKind, Read, Write};
+mod console;
+mod directory;
+mod items;
+mod memory;
 
-/// Ports over one input, which is port 1, and one output, which is told what ports 0 and 1 are told.
+use ak_host::{Block, Disk, Failed, Host, Outside, Ports, Turn};
+use console::Console;
+use directory::Directory;
+use items::put_item;
+use memory::Memory;
+use std::alloc::{AllocError, Global};
+use std::io;
+use std::io::{Read, Write};
+
+// What the files stand on.
+#[derive(Drop)]
+enum Medium {
+    Directory(Directory),
+    Memory(Memory),
+}
+
+impl Medium {
+    fn make(&mut self, file: u32, blocks: u32) -> io::Result<()> {
+        match self {
+            Medium::Directory(directory) => directory.make(file, blocks),
+            Medium::Memory(memory) => Ok(memory.make(file, blocks)?),
+        }
+    }
+
+    fn read(&self, file: u32, index: u32, into: &mut Block) -> io::Result<()> {
+        match self {
+            Medium::Directory(directory) => directory.read(file, index, into),
+            Medium::Memory(memory) => memory.read(file, index, into),
+        }
+    }
+
+    fn write(&mut self, file: u32, index: u32, from: &Block) -> io::Result<()> {
+        match self {
+            Medium::Directory(directory) => directory.write(file, index, from),
+            Medium::Memory(memory) => memory.write(file, index, from),
+        }
+    }
+
+    // Files in memory outlast no stop, so there is nothing to be done for them.
+    fn sync(&mut self, file: u32) -> io::Result<()> {
+        match self {
+            Medium::Directory(directory) => directory.sync(file),
+            Medium::Memory(_) => Ok(()),
+        }
+    }
+}
+
+/// A host over files in a directory or in memory, and over one input, which is port 1, and one output, which is told what
+/// ports 0 and 1 are told.
 ///
-/// The input is given in turns of up to 4096 bytes, then its end, and then `Done`. It tells nothing of content: it is
-/// the edge that is trusted. A read or a write that fails is a fault of the ports.
+/// It tells nothing of content: it is the edge that is trusted. A call that fails is a fault of the disk or of the ports,
+/// also where it fails for want of memory.
 #[derive(Drop)]
 pub struct RealHost<R: Read + Drop, W: Write + Drop> {
-    input: R,
-    output: W,
-    ended: bool,
+    medium: Medium,
+    sizes: Vec<u32>,
+    console: Console<R, W>,
+    disk_faults: u64,
     port_faults: u64,
+    ghost few: { length sizes.items < 2 ^ 32 },
 }
 
 impl<R: Read + Drop, W: Write + Drop> RealHost<R, W> {
-    /// A host over this input and output, without faults so far.
-    pub fn new(input: R, output: W) -> RealHost<R, W>
-        ensures { result.port_faults ≡ 0 }
+    /// A host over the files of a directory, without faults so far.
+    pub fn in_directory(
+        rt: HostRuntime,
+        path: &str,
+        input: R,
+        output: W,
+    ) -> Result<RealHost<R, W>, AllocError>
+        ensures disk_faults { IfOk result (λ host. host.disk_faults ≡ 0) }
+        ensures port_faults { IfOk result (λ host. host.port_faults ≡ 0) }
+    {
+        let (directory, sizes) = Directory::open(rt, path)?;
+        let medium = Medium::Directory(directory);
+        Ok(RealHost::over(medium, sizes, input, output))
+    }
+
+    /// A host over files in memory, of which there are none yet, without faults so far. It takes no memory.
+    pub fn in_memory(alloc: Global, input: R, output: W) -> RealHost<R, W>
+        ensures sizes { result.sizes.items ≡ [] }
+        ensures disk_faults { result.disk_faults ≡ 0 }
+        ensures port_faults { result.port_faults ≡ 0 }
+    {
+        let medium = Medium::Memory(Memory::new(alloc));
+        RealHost::over(medium, Vec::new(alloc), input, output)
+    }
+
+    // A host whose files have these blocks, without faults so far.
+    fn over(medium: Medium, sizes: Vec<u32>, input: R, output: W) -> RealHost<R, W>
+        requires { length sizes.items < 2 ^ 32 }
+        ensures sizes { result.sizes.items ≡ sizes.items }
+        ensures disk_faults { result.disk_faults ≡ 0 }
+        ensures port_faults { result.port_faults ≡ 0 }
     {
         RealHost {
-            input,
-            output,
-            ended: false,
+            medium,
+            sizes,
+            console: Console::new(input, output),
+            disk_faults: 0,
             port_faults: 0,
         }
     }
@@ -35,12 +116,12 @@ impl<R: Read + Drop, W: Write + Drop> Outside for RealHost<R, W> {
     ghost tells = { ⊥ };
 
     ghost state = { λ host. record {
-      sizes = [];
+      sizes = host.sizes.items;
       files = [];
       moment = 0;
       mark = λ t. record { turns = []; tellings = [] };
       leaves = λ t disk. ⊥;
-      disk_faults = 0;
+      disk_faults = host.disk_faults;
       port_faults = host.port_faults;
       reads = 0;
       writes = 0;
@@ -56,36 +137,62 @@ fn fault(faults: &mut u64) -> Failed
     Failed
 }
 
+// What a call answers, where a failure is counted.
+fn counted<T, E: Drop>(outcome: Result<T, E>, faults: &mut u64) -> Result<T, Failed>
+    ensures cause { HasCause faults.old faults.new result }
+    ensures same { OnOk result (faults.new ≡ faults.old) }
+    ensures value { IfOk result (λ value. outcome ≡ Ok value) }
+{
+    match outcome {
+        Ok(value) => Ok(value),
+        Err(_) => Err(fault(faults)),
+    }
+}
+
+impl<R: Read + Drop, W: Write + Drop> Disk for RealHost<R, W> {
+    ghost leaves_files = { λ told host. absurd told };
+
+    ghost leaves_blocks = { λ told host disk left. absurd told };
+
+    ghost sized = { λ told host. absurd told };
+
+    fn files(&self) -> u32 {
+        self.sizes.len() as u32
+    }
+
+    fn blocks(&self, file: u32) -> u32 {
+        self.sizes[file as usize]
+    }
+
+    fn make(&mut self, file: u32, blocks: u32) -> Result<(), Failed> {
+        counted(self.medium.make(file, blocks), &mut self.disk_faults)?;
+        counted(
+            put_item(&mut self.sizes, file, blocks),
+            &mut self.disk_faults,
+        )
+    }
+
+    fn read(&mut self, file: u32, index: u32, into: &mut Block) -> Result<(), Failed> {
+        counted(self.medium.read(file, index, into), &mut self.disk_faults)
+    }
+
+    fn write(&mut self, file: u32, index: u32, from: &Block) -> Result<(), Failed> {
+        counted(self.medium.write(file, index, from), &mut self.disk_faults)
+    }
+
+    fn sync(&mut self, file: u32) -> Result<(), Failed> {
+        counted(self.medium.sync(file), &mut self.disk_faults)
+    }
+}
+
 impl<R: Read + Drop, W: Write + Drop> Ports for RealHost<R, W> {
     fn turn(&mut self, into: &mut Block) -> Result<Turn, Failed> {
-        if self.ended {
-            return Ok(Turn::Done);
-        }
-        match self.input.read(into) {
-            Ok(0) => {
-                self.ended = true;
-                Ok(Turn::End { port: 1 })
-            }
-            Ok(n) => Ok(Turn::Bytes {
-                port: 1,
-                n: n as u32,
-            }),
-            Err(error) => {
-                if error.kind() == ErrorKind::Interrupted {
-                    return Ok(Turn::Idle);
-                }
-                Err(fault(&mut self.port_faults))
-            }
-        }
+        counted(self.console.turn(into), &mut self.port_faults)
     }
 
     fn reply(&mut self, port: u32, bytes: &[u8]) -> Result<(), Failed> {
-        if port > 1 {
-            return Ok(());
-        }
-        match self.output.write_all(bytes) {
-            Ok(()) => Ok(()),
-            Err(_) => Err(fault(&mut self.port_faults)),
-        }
+        counted(self.console.reply(port, bytes), &mut self.port_faults)
     }
 }
+
+impl<R: Read + Drop, W: Write + Drop> Host for RealHost<R, W> {}

@@ -10,6 +10,7 @@ loop-i-init g c = record {
   sizes = refl;
   later = omega arith;
   port_faults = refl;
+  short = omega (arith, c.in_ok-left.ensures.short, ap length c.new-payload.ensures);
   only = λ told. record { files = refl; writes = refl; reads_least = omega arith; reads_most = omega arith; moments = disk_starts _ _ };
   to_come = λ told.
       first_part c.args.slot c.args.half (file_at (g.D.Outside.state c.args.disk.now).files 0) c.args.head.now c.extend_by.new.payload c.in_ok-left.left c.requires.some (c.requires.head told)
@@ -34,6 +35,7 @@ loop-i-preserved g c =
       sizes = c.read_more.ensures.sizes ∙ so_far.sizes;
       later = omega (arith, c.read_more.ensures.later, so_far.later);
       port_faults = c.read_more.ensures.port_faults ∙ so_far.port_faults;
+      short = omega (arith, c.in_ok-left-2.ensures.short, so_far.short);
       only = λ told. record {
         files = (c.read_more.ensures.only told).files ∙ (so_far.only told).files;
         writes = (c.read_more.ensures.only told).writes ∙ (so_far.only told).writes;

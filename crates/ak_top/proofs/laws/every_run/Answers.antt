@@ -1,5 +1,5 @@
-use Rattle.ak_top.proofs.Unique as unique
+use Rattle.ak_top.proofs.Unique.{every_run}
 use Rattle.ak_top.proofs.laws.every_run.Goals as goal
 
 pub returns : goal.returns
-returns c turns = unique.every_run turns
+returns c view turns = every_run view turns

@@ -1,51 +1,104 @@
-use Rattle.std.proofs.Common.{arith, subst}
-use Rattle.ak_top.specs.declared.node.Went.{Went}
+use Rattle.std.proofs.Common.{◌∙◌, arith, refl, subst}
 use Rattle.ak_host.specs.Moments.{mark_now}
-use Rattle.ak_host.proofs.Passing.{port_starts, port_goes_on}
+use Rattle.ak_host.proofs.Passing.{nothing_passes, goes_on}
+use Rattle.ak_top.specs.declared.node.Went.{Went}
+use Rattle.ak_top.specs.declared.node.Went.TheVariants as went
 use Rattle.ak_top.specs.Standing.{AfterTurn}
-use Rattle.ak_top.proofs.Runs.{running_starts, moment_quiet, running_on, ends_done, spent_all, spent_complete}
+use Rattle.ak_top.proofs.Runs.{running_starts, moment_quiet, moment_kept, running_on, ends_done, ends_kept, ends_fresh, wears_run, spent_complete, spent_all, spent_fresh}
 use Rattle.ak_top.proofs.top.serve.Goals as goal
 
 pub loop-turn-init : goal.loop-turn-init
-loop-turn-init g c = record { later = omega arith; running = λ told. running_starts _ c.new-node.result c.new-node.ensures; moments = λ told. port_starts _ _ }
+loop-turn-init g c = record {
+  disk_later = omega arith;
+  port_later = omega arith;
+  silent = λ told. refl;
+  ready = c.requires.ready;
+  running = λ told view stands. running_starts view (mark_now (g.H.Outside.state c.args.host.now)) c.args.node (g.H.Outside.state c.args.host.now) stands;
+  moments = λ told view stands. nothing_passes _ _ (g.H.Outside.state c.args.host.now);
+}
 
 pub loop-turn-preserved : goal.loop-turn-preserved
 loop-turn-preserved g c = record {
-  later = omega (arith, c.turn.ensures.cause.later, c.loop-turn.invariant.later);
-  running = λ told.
-      let r = c.loop-turn.invariant.running told in
-      let start = mark_now (g.P.Outside.state c.args.ports.now) in
-      let before = mark_now (g.P.Outside.state c.loop-turn.ports) in
-      let after = mark_now (g.P.Outside.state c.turn.new.ports) in
-      let P : Went → Type 0 = λ w. AfterTurn r.world before after c.turn.new.self w in
-      running_on start before c.loop-turn.node c.loop-turn._turn r after c.turn.new.self (subst P c.in-Ok-More.field-0-is (c.in-Ok-More.ensures.after told r.world r.stands));
-  moments = λ told.
-      let r = c.loop-turn.invariant.running told in
-      port_goes_on (c.loop-turn.invariant.moments told) (c.turn.ensures.moments told r.world r.stands) (moment_quiet _ _ c.loop-turn.node c.loop-turn._turn r);
+  disk_later = omega (arith, c.turn.ensures.stops.disk_later, c.loop-turn.invariant.disk_later);
+  port_later = omega (arith, c.turn.ensures.stops.port_later, c.loop-turn.invariant.port_later);
+  silent = λ told. c.turn.ensures.silent told ∙ c.loop-turn.invariant.silent told;
+  ready = c.in-Ok-More.ensures.ready;
+  running = λ told view stands.
+      let r = c.loop-turn.invariant.running told view stands in
+      let start = mark_now (g.H.Outside.state c.args.host.now) in
+      let old = g.H.Outside.state c.loop-turn.host in
+      let new = g.H.Outside.state c.turn.new.host in
+      let P : Went → Type 0 = λ w. AfterTurn r.world (mark_now old) (mark_now new) c.turn.new.self new w in
+      running_on view start (mark_now old) c.loop-turn.node old c.loop-turn._turn r (mark_now new) c.turn.new.self new (subst P c.in-Ok-More.field-0-is (c.in-Ok-More.ensures.after told r.world r.stands));
+  moments = λ told view stands.
+      let r = c.loop-turn.invariant.running told view stands in
+      let start = mark_now (g.H.Outside.state c.args.host.now) in
+      let old = g.H.Outside.state c.loop-turn.host in
+      goes_on (c.loop-turn.invariant.moments told view stands) (c.turn.ensures.moments told r.world r.stands)
+      (moment_quiet view start (mark_now old) c.loop-turn.node old c.loop-turn._turn r)
+      (λ mark disk m left. moment_kept view start (mark_now old) c.loop-turn.node old c.loop-turn._turn r mark disk left);
 }
 
 pub returns-in-Ok-Done-clause-done : goal.returns-in-Ok-Done-clause-done
-returns-in-Ok-Done-clause-done g c told =
-    let r = c.loop-turn.invariant.running told in
-    let start = mark_now (g.P.Outside.state c.args.ports.now) in
-    let before = mark_now (g.P.Outside.state c.loop-turn.ports) in
-    let after = mark_now (g.P.Outside.state c.turn.new.ports) in
-    let P : Went → Type 0 = λ w. AfterTurn r.world before after c.turn.new.self w in
-    ends_done start before c.loop-turn.node c.loop-turn._turn r after c.turn.new.self (subst P c.in-Ok-Done.field-0-is (c.in-Ok-Done.ensures.after told r.world r.stands))
+returns-in-Ok-Done-clause-done g c told view stands =
+    let r = c.loop-turn.invariant.running told view stands in
+    let start = mark_now (g.H.Outside.state c.args.host.now) in
+    let old = g.H.Outside.state c.loop-turn.host in
+    let new = g.H.Outside.state c.turn.new.host in
+    let P : Went → Type 0 = λ w. AfterTurn r.world (mark_now old) (mark_now new) c.turn.new.self new w in
+    ends_done view start (mark_now old) c.loop-turn.node old c.loop-turn._turn r (mark_now new) c.turn.new.self new (subst P c.in-Ok-Done.field-0-is (c.in-Ok-Done.ensures.after told r.world r.stands))
+
+pub returns-in-Ok-Done-clause-kept : goal.returns-in-Ok-Done-clause-kept
+returns-in-Ok-Done-clause-kept g c told view stands =
+    let r = c.loop-turn.invariant.running told view stands in
+    let start = mark_now (g.H.Outside.state c.args.host.now) in
+    let old = g.H.Outside.state c.loop-turn.host in
+    let new = g.H.Outside.state c.turn.new.host in
+    let P : Went → Type 0 = λ w. AfterTurn r.world (mark_now old) (mark_now new) c.turn.new.self new w in
+    ends_kept view start (mark_now old) c.loop-turn.node old c.loop-turn._turn r (mark_now new) c.turn.new.self new went.Done (subst P c.in-Ok-Done.field-0-is (c.in-Ok-Done.ensures.after told r.world r.stands))
+
+pub returns-in-Ok-Done-clause-fresh : goal.returns-in-Ok-Done-clause-fresh
+returns-in-Ok-Done-clause-fresh g c told view stands =
+    let r = c.loop-turn.invariant.running told view stands in
+    let start = mark_now (g.H.Outside.state c.args.host.now) in
+    let old = g.H.Outside.state c.loop-turn.host in
+    let new = g.H.Outside.state c.turn.new.host in
+    let P : Went → Type 0 = λ w. AfterTurn r.world (mark_now old) (mark_now new) c.turn.new.self new w in
+    ends_fresh view start (mark_now old) c.loop-turn.node old c.loop-turn._turn r (mark_now new) c.turn.new.self new went.Done (subst P c.in-Ok-Done.field-0-is (c.in-Ok-Done.ensures.after told r.world r.stands))
 
 pub returns-in-Ok-Done-clause-moments : goal.returns-in-Ok-Done-clause-moments
-returns-in-Ok-Done-clause-moments g c told =
-    let r = c.loop-turn.invariant.running told in
-    port_goes_on (c.loop-turn.invariant.moments told) (c.turn.ensures.moments told r.world r.stands) (moment_quiet _ _ c.loop-turn.node c.loop-turn._turn r)
+returns-in-Ok-Done-clause-moments g c told view stands =
+    let r = c.loop-turn.invariant.running told view stands in
+    let start = mark_now (g.H.Outside.state c.args.host.now) in
+    let old = g.H.Outside.state c.loop-turn.host in
+    goes_on (c.loop-turn.invariant.moments told view stands) (c.turn.ensures.moments told r.world r.stands)
+    (moment_quiet view start (mark_now old) c.loop-turn.node old c.loop-turn._turn r)
+    (λ mark disk m left. moment_kept view start (mark_now old) c.loop-turn.node old c.loop-turn._turn r mark disk left)
+
+pub returns-in-Err-clause-worn : goal.returns-in-Err-clause-worn
+returns-in-Err-clause-worn g c told view stands stop =
+    let r = c.loop-turn.invariant.running told view stands in
+    let start = mark_now (g.H.Outside.state c.args.host.now) in
+    let old = g.H.Outside.state c.loop-turn.host in
+    wears_run view start (mark_now old) c.loop-turn.node old c.loop-turn._turn r (mark_now (g.H.Outside.state c.turn.new.host)) (c.in-Err.ensures.worn told r.world r.stands stop)
 
 pub returns-in-Err-clause-moments : goal.returns-in-Err-clause-moments
-returns-in-Err-clause-moments g c told =
-    let r = c.loop-turn.invariant.running told in
-    port_goes_on (c.loop-turn.invariant.moments told) (c.turn.ensures.moments told r.world r.stands) (moment_quiet _ _ c.loop-turn.node c.loop-turn._turn r)
+returns-in-Err-clause-moments g c told view stands =
+    let r = c.loop-turn.invariant.running told view stands in
+    let start = mark_now (g.H.Outside.state c.args.host.now) in
+    let old = g.H.Outside.state c.loop-turn.host in
+    goes_on (c.loop-turn.invariant.moments told view stands) (c.turn.ensures.moments told r.world r.stands)
+    (moment_quiet view start (mark_now old) c.loop-turn.node old c.loop-turn._turn r)
+    (λ mark disk m left. moment_kept view start (mark_now old) c.loop-turn.node old c.loop-turn._turn r mark disk left)
 
 pub returns-clause-spent : goal.returns-clause-spent
-returns-clause-spent g c told budget =
-    spent_all _ _ c.loop-turn.node c.loop-turn._turn (omega arith) (c.loop-turn.invariant.running told)
+returns-clause-spent g c told view stands budget =
+    spent_all view (mark_now (g.H.Outside.state c.args.host.now)) (mark_now (g.H.Outside.state c.loop-turn.host)) c.loop-turn.node (g.H.Outside.state c.loop-turn.host) c.loop-turn._turn (c.loop-turn.invariant.running told view stands) (omega arith)
 
 pub returns-clause-complete : goal.returns-clause-complete
-returns-clause-complete g c told budget = spent_complete _ _ c.loop-turn.node c.loop-turn._turn (c.loop-turn.invariant.running told)
+returns-clause-complete g c told view stands budget =
+    spent_complete view (mark_now (g.H.Outside.state c.args.host.now)) (mark_now (g.H.Outside.state c.loop-turn.host)) c.loop-turn.node (g.H.Outside.state c.loop-turn.host) c.loop-turn._turn (c.loop-turn.invariant.running told view stands)
+
+pub returns-clause-fresh_spent : goal.returns-clause-fresh_spent
+returns-clause-fresh_spent g c told view stands budget =
+    spent_fresh view (mark_now (g.H.Outside.state c.args.host.now)) (mark_now (g.H.Outside.state c.loop-turn.host)) c.loop-turn.node (g.H.Outside.state c.loop-turn.host) c.loop-turn._turn (c.loop-turn.invariant.running told view stands)

@@ -1,12 +1,22 @@
 use Rattle.std.proofs.Common.{◌≤◌}
-use Rattle.ak_host.specs.Moments.{PortPasses, mark_now}
+use Rattle.ak_host.specs.Moments.{Passes, mark_now}
+use Rattle.ak_view.specs.Views.{View}
+use Rattle.ak_top.specs.Calls.{IsSilent}
+use Rattle.ak_top.specs.Kept.{IsKept}
+use Rattle.ak_top.specs.Run.{world_of}
+use Rattle.ak_top.specs.Standing.{IsReady, Stands}
 use Rattle.ak_top.specs.Told.{IsQuiet}
 use Rattle.ak_top.proofs.Runs.{Running}
 use Rattle.ak_top.proofs.top.serve.Given as goal
 
 abbrev pub invariant-loop-turn : goal.invariant-loop-turn
 invariant-loop-turn g l = record {
-  later : (g.P.Outside.state l.fn.ports).port_faults ≤ (g.P.Outside.state l.ports).port_faults;
-  running : g.P.Outside.tells → Running (mark_now (g.P.Outside.state l.fn.ports)) (mark_now (g.P.Outside.state l.ports)) l.node l._turn;
-  moments : g.P.Outside.tells → PortPasses (IsQuiet (mark_now (g.P.Outside.state l.fn.ports))) (g.P.Outside.state l.fn.ports) (g.P.Outside.state l.ports);
+  disk_later : (g.H.Outside.state l.fn.host).disk_faults ≤ (g.H.Outside.state l.host).disk_faults;
+  port_later : (g.H.Outside.state l.fn.host).port_faults ≤ (g.H.Outside.state l.host).port_faults;
+  silent : g.H.Outside.tells → IsSilent (g.H.Outside.state l.fn.host) (g.H.Outside.state l.host);
+  ready : IsReady g.H.Outside.tells l.node.keeper (g.H.Outside.state l.host);
+  running : g.H.Outside.tells → (view : View) → Stands l.fn.node (world_of view) (g.H.Outside.state l.fn.host)
+      → Running view (mark_now (g.H.Outside.state l.fn.host)) (mark_now (g.H.Outside.state l.host)) l.node (g.H.Outside.state l.host) l._turn;
+  moments : g.H.Outside.tells → (view : View) → Stands l.fn.node (world_of view) (g.H.Outside.state l.fn.host)
+      → Passes (IsQuiet view (mark_now (g.H.Outside.state l.fn.host))) (IsKept view (mark_now (g.H.Outside.state l.fn.host))) (g.H.Outside.state l.fn.host) (g.H.Outside.state l.host);
 }

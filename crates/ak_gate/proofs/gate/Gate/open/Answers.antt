@@ -6,6 +6,14 @@ use Rattle.ak_gate.proofs.Found.{length_file, found_knows}
 use Rattle.ak_gate.proofs.Fitting.{fits_stable}
 use Rattle.ak_gate.proofs.gate.Gate.open.Goals as goal
 
+pub returns-clause-knows : goal.returns-clause-knows
+returns-clause-knows g c told =
+    let old = g.D.Outside.state c.args.disk.now in
+    let slot = (c.blocks_of-blocks.result - 2) / 2 in
+    let long : length (file_at old.files 0) ≡ 2 + 2 * slot =
+    omega (arith, length_file old.files, ap (λ (sizes : List ℕ). slice_index sizes 0) (g.met.D.Disk.sized told c.args.disk.now), c.blocks_of-blocks.ensures.blocks, c.if-blocks-lt4.false, c.if-blocks-eq1.false) in
+    found_knows slot (file_at old.files 0) c.in_ok-found.found long (c.in_ok-found.ensures.found told)
+
 pub returns-clause-fits : goal.returns-clause-fits
 returns-clause-fits g c told stable =
     let old = g.D.Outside.state c.args.disk.now in

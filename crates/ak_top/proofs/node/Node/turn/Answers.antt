@@ -1,14 +1,30 @@
-use Rattle.std.proofs.Common.{inl, inr, refl}
+use Rattle.std.proofs.Common.{◌∙◌}
 use Rattle.ak_host.specs.Marks.{taken}
-use Rattle.ak_host.specs.Moments.{mark_now}
-use Rattle.ak_host.proofs.Passing.{port_starts, port_call, port_goes_on}
-use Rattle.ak_top.proofs.Turns.{act_starts, turn_in}
+use Rattle.ak_top.specs.Calls.{IsWornStop}
+use Rattle.ak_top.specs.Standing.{Stands, went_after}
+use Rattle.ak_top.proofs.Steps.{holds_after_ports, on_stop_weaker, if_and_ok}
+use Rattle.ak_top.proofs.Turns.{turn_acts, turn_wears, turn_after, went_same}
 use Rattle.ak_top.proofs.node.Node.turn.Goals as goal
+
+pub returns-in-Ok-clause-worn : goal.returns-in-Ok-clause-worn
+returns-in-Ok-clause-worn g c told world stands =
+    let old = g.H.Outside.state c.args.host.now in
+    let mid = g.H.Outside.state c.turn.new.self in
+    let later : Stands c.args.self.now world mid = record { holds = holds_after_ports world.content c.args.self.now.keeper old mid stands.holds (c.turn.ensures.moments told); session = stands.session } in
+    on_stop_weaker IsWornStop c.act.result (turn_wears world (taken c.in-Ok.turn c.turn.new.into) c.args.self.now old mid (g.H.Outside.state c.act.new.host) (c.in-Ok.ensures.given told) later (c.act.ensures.moments told world later)) (c.act.ensures.worn told world later)
+
+pub returns-in-Ok-clause-after : goal.returns-in-Ok-clause-after
+returns-in-Ok-clause-after g c told world stands =
+    let old = g.H.Outside.state c.args.host.now in
+    let mid = g.H.Outside.state c.turn.new.self in
+    let later : Stands c.args.self.now world mid = record { holds = holds_after_ports world.content c.args.self.now.keeper old mid stands.holds (c.turn.ensures.moments told); session = stands.session } in
+    if_and_ok c.act.result (went_after c.in-Ok.turn) c.act.ensures.went (c.act.ensures.after told world later)
+    (λ went is acted. turn_after world (taken c.in-Ok.turn c.turn.new.into) c.args.self.now old mid (g.H.Outside.state c.act.new.host) (c.in-Ok.ensures.given told) c.act.new.self went (is ∙ went_same c.in-Ok.turn c.turn.new.into) acted)
 
 pub returns-in-Ok-clause-moments : goal.returns-in-Ok-clause-moments
 returns-in-Ok-clause-moments g c told world stands =
-    let start = mark_now (g.P.Outside.state c.args.ports.now) in
-    let one = mark_now (g.P.Outside.state c.turn.new.self) in
+    let old = g.H.Outside.state c.args.host.now in
+    let mid = g.H.Outside.state c.turn.new.self in
     let taking = taken c.in-Ok.turn c.turn.new.into in
-    let first = port_call (port_starts _ _) (c.turn.ensures.moments told) (inl refl) (inr (turn_in world taking start one one (c.in-Ok.ensures.given told) (act_starts world c.args.self.now taking one stands))) in
-    port_goes_on first (c.act.ensures.moments told world stands) (λ mark a. inr (turn_in world taking start one mark (c.in-Ok.ensures.given told) a))
+    let later : Stands c.args.self.now world mid = record { holds = holds_after_ports world.content c.args.self.now.keeper old mid stands.holds (c.turn.ensures.moments told); session = stands.session } in
+    turn_acts world taking c.args.self.now old mid (g.H.Outside.state c.act.new.host) (c.in-Ok.ensures.given told) stands later (c.turn.ensures.moments told) (c.act.ensures.moments told world later)

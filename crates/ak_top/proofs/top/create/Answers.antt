@@ -1,0 +1,11 @@
+use Rattle.ak_host.proofs.Passing.{disk_weaker}
+use Rattle.ak_top.proofs.Opening.{free_none, making}
+use Rattle.ak_top.proofs.top.create.Goals as goal
+
+pub returns-in_err-make_store-clause-moments : goal.returns-in_err-make_store-clause-moments
+returns-in_err-make_store-clause-moments g c told free =
+    disk_weaker (c.make_store.ensures.moments told (λ disk left. free_none disk (free disk left))) (making c.args.limits c.requires)
+
+pub returns-clause-moments : goal.returns-clause-moments
+returns-clause-moments g c told free =
+    disk_weaker (c.make_store.ensures.moments told (λ disk left. free_none disk (free disk left))) (making c.args.limits c.requires)

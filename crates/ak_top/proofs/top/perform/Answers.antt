@@ -1,0 +1,87 @@
+use Rattle.std.proofs.Common.{map, string_bytes, inl, sym, subst, OnOk}
+use Rattle.std.proofs.lemmas.Result.{IfErr-weaker}
+use Rattle.ak_base.specs.declared.limits.Limits.{Limits}
+use Rattle.ak_host.specs.Files.{Files}
+use Rattle.ak_host.specs.Moments.{DiskPasses, LeavesNow, mark_now, Passes}
+use Rattle.ak_view.specs.Views.{View, StandsFor, first_view}
+use Rattle.ak_top.specs.Commands.{IsMaking, LeavesBefore}
+use Rattle.ak_top.specs.Ends.{IsEnd, IsScratchStop, IsServing, IsServingOrThere, HasServed}
+use Rattle.ak_top.specs.Kept.{KeepsFrom}
+use Rattle.ak_top.specs.Told.{IsQuiet}
+use Rattle.ak_top.proofs.Commands.{quiet_passes, keeps_weaker, keeps_starts, leaves_run, leaves_scratch, scratch_end}
+use Rattle.ak_top.proofs.Words.{are_run, are_none, one_limits, run_command, creates_command, makes_command, serves_command, no_command}
+use Rattle.ak_top.proofs.top.perform.Goals as goal
+
+pub returns-in-Create-clause-quiet : goal.returns-in-Create-clause-quiet
+returns-in-Create-clause-quiet g c told view opens = quiet_passes view (c.create.ensures.mark told)
+
+pub returns-in-Create-clause-creating : goal.returns-in-Create-clause-creating
+returns-in-Create-clause-creating g c told limits creates free =
+    let same = one_limits (map string_bytes c.args.words.now) c.in-Ok.job c.in-Create.limits limits c.in-Ok.ensures.job c.in-Create.is creates in
+    subst (λ (l : Limits). DiskPasses (IsMaking l) (g.H.Outside.state c.args.host.now) (g.H.Outside.state c.create.new.disk)) same (c.create.ensures.moments told free)
+
+pub returns-in-Create-clause-created : goal.returns-in-Create-clause-created
+returns-in-Create-clause-created g c told limits creates =
+    let same = one_limits (map string_bytes c.args.words.now) c.in-Ok.job c.in-Create.limits limits c.in-Ok.ensures.job c.in-Create.is creates in
+    subst (λ (l : Limits). OnOk c.create.result ((left : Files) → LeavesNow (g.H.Outside.state c.create.new.disk) left → StandsFor (first_view l) left)) same (c.create.ensures.made told)
+
+pub returns-in-Run-clause-quiet : goal.returns-in-Run-clause-quiet
+returns-in-Run-clause-quiet g c told view opens =
+    c.run.ensures.quiet told view (opens.run (are_run (map string_bytes c.args.words.now) c.in-Ok.job c.in-Ok.ensures.job c.in-Run.is))
+
+pub returns-in-Run-clause-sound : goal.returns-in-Run-clause-sound
+returns-in-Run-clause-sound g c told view opens serves =
+    IfErr-weaker c.run.result IsServing IsServingOrThere (λ s is. inl is)
+    (c.run.ensures.sound told view (opens.run (are_run (map string_bytes c.args.words.now) c.in-Ok.job c.in-Ok.ensures.job c.in-Run.is)))
+
+pub returns-in-Run-clause-stands : goal.returns-in-Run-clause-stands
+returns-in-Run-clause-stands g c told view opens serves =
+    let run = are_run (map string_bytes c.args.words.now) c.in-Ok.job c.in-Ok.ensures.job c.in-Run.is in
+    keeps_weaker (c.run.ensures.stands told view (opens.run run)) (leaves_run (map string_bytes c.args.words.now) (g.H.Outside.state c.args.host.now) run)
+
+pub returns-in-Ok-clause-cause : goal.returns-in-Ok-clause-cause
+returns-in-Ok-clause-cause g c =
+    let words = map string_bytes c.args.words.now in
+    let none = are_none words c.in-Ok.job c.in-Ok.ensures.job c.in-Scratch.is in
+    let old = g.H.Outside.state c.args.host.now in
+    let new = g.H.Outside.state c.scratch.new.host in
+    IfErr-weaker c.scratch.result (IsScratchStop g.H.Outside.tells old new) (IsEnd words g.H.Outside.tells old new)
+    (scratch_end words g.H.Outside.tells old new none) c.scratch.ensures.cause
+
+pub returns-in-Ok-clause-quiet : goal.returns-in-Ok-clause-quiet
+returns-in-Ok-clause-quiet g c told view opens =
+    let none = are_none (map string_bytes c.args.words.now) c.in-Ok.job c.in-Ok.ensures.job c.in-Scratch.is in
+    let old = g.H.Outside.state c.args.host.now in
+    subst (λ (v : View). Passes (IsQuiet v (mark_now old)) (λ mark disk. Unit {0}) old (g.H.Outside.state c.scratch.new.host)) (sym (opens.scratch none)) (c.scratch.ensures.quiet told)
+
+pub returns-in-Ok-clause-served : goal.returns-in-Ok-clause-served
+returns-in-Ok-clause-served g c told view opens serves =
+    let none = are_none (map string_bytes c.args.words.now) c.in-Ok.job c.in-Ok.ensures.job c.in-Scratch.is in
+    let old = g.H.Outside.state c.args.host.now in
+    subst (λ (v : View). HasServed v (mark_now old) (g.H.Outside.state c.scratch.new.host) c.scratch.result) (sym (opens.scratch none)) (c.scratch.ensures.served told)
+
+pub returns-in-Ok-clause-stands : goal.returns-in-Ok-clause-stands
+returns-in-Ok-clause-stands g c told view opens serves =
+    let words = map string_bytes c.args.words.now in
+    let none = are_none words c.in-Ok.job c.in-Ok.ensures.job c.in-Scratch.is in
+    let old = g.H.Outside.state c.args.host.now in
+    let keeps = keeps_weaker (c.scratch.ensures.stands told) (leaves_scratch words old none) in
+    subst (λ (v : View). KeepsFrom v (LeavesBefore words old) old (g.H.Outside.state c.scratch.new.host)) (sym (opens.scratch none)) keeps
+
+pub returns-in-Err-Usage-clause-no_store : goal.returns-in-Err-Usage-clause-no_store
+returns-in-Err-Usage-clause-no_store g c told run none = absurd (no_command (map string_bytes c.args.words.now) c.in-Err-Usage.field-0 c.in-Err-Usage.field-0-is c.in-Err-Usage.ensures.usage (run_command (map string_bytes c.args.words.now) run))
+
+pub returns-in-Err-Usage-clause-exists : goal.returns-in-Err-Usage-clause-exists
+returns-in-Err-Usage-clause-exists g c told limits makes taken = absurd (no_command (map string_bytes c.args.words.now) c.in-Err-Usage.field-0 c.in-Err-Usage.field-0-is c.in-Err-Usage.ensures.usage (makes_command (map string_bytes c.args.words.now) limits makes))
+
+pub returns-in-Err-Usage-clause-sound : goal.returns-in-Err-Usage-clause-sound
+returns-in-Err-Usage-clause-sound g c told view opens serves = absurd (no_command (map string_bytes c.args.words.now) c.in-Err-Usage.field-0 c.in-Err-Usage.field-0-is c.in-Err-Usage.ensures.usage (serves_command (map string_bytes c.args.words.now) serves))
+
+pub returns-in-Err-Usage-clause-stands : goal.returns-in-Err-Usage-clause-stands
+returns-in-Err-Usage-clause-stands g c told view opens serves = absurd (no_command (map string_bytes c.args.words.now) c.in-Err-Usage.field-0 c.in-Err-Usage.field-0-is c.in-Err-Usage.ensures.usage (serves_command (map string_bytes c.args.words.now) serves))
+
+pub returns-in-Err-Usage-clause-making : goal.returns-in-Err-Usage-clause-making
+returns-in-Err-Usage-clause-making g c limits creates = absurd (no_command (map string_bytes c.args.words.now) c.in-Err-Usage.field-0 c.in-Err-Usage.field-0-is c.in-Err-Usage.ensures.usage (creates_command (map string_bytes c.args.words.now) limits creates))
+
+pub returns-clause-stands : goal.returns-clause-stands
+returns-clause-stands g c told view opens serves = keeps_starts view (map string_bytes c.args.words.now) (g.H.Outside.state c.args.host.now)

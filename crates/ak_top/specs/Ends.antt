@@ -1,0 +1,117 @@
+-- How a call ends, and why.
+use Rattle.std.specs.Prelude.{ℕ, ◌≡◌, ◌≢◌, ◌⊎◌, ◌-◌, ◌^◌, ◌≤◌, List, [], ◌++◌, Result, Ok, Err, OnOk}
+use Rattle.ak_base.specs.declared.limits.Limits.{Limits}
+use Rattle.ak_base.specs.declared.stop.Stop.{Stop}
+use Rattle.ak_base.specs.declared.stop.Stop.TheVariants.{Usage, Damaged, Disk, Port, Memory, Budget, Worn, NoStore, Exists}
+use Rattle.ak_base.specs.Stops.{status_of}
+use Rattle.ak_host.specs.Causes.{Rose}
+use Rattle.ak_host.specs.Marks.{Mark}
+use Rattle.ak_host.specs.Moments.{HostState, mark_now}
+use Rattle.ak_view.specs.Stops.{IsNoStore, IsTaken, IsDamagedAt}
+use Rattle.ak_words.specs.Words.{IsCommand}
+use Rattle.ak_top.specs.Commands.{IsRun, Makes, Serves}
+use Rattle.ak_top.specs.Calls.{console_of, OnStop, IsBudget, IsWornStop}
+use Rattle.ak_top.specs.Kept.{KeepsLast}
+use Rattle.ak_top.specs.Told.{IsComplete, EndsDone, AreSpent, IsWorn, line_of}
+use Rattle.ak_view.specs.Views.{View}
+
+-- Why a call with these words ends by a stop.
+abbrev pub IsEnd : List (List ℕ) → Type 0 → HostState → HostState → Stop → Type 0
+IsEnd words told old new Usage = ¬ (IsCommand words)
+IsEnd words told old new (Damaged file block) = IsRun words × (file ≡ 0) × (told → IsDamagedAt block old.files)
+IsEnd words told old new Disk = Rose old.disk_faults new.disk_faults
+IsEnd words told old new Port = Rose old.port_faults new.port_faults
+IsEnd words told old new Memory = Unit {0}
+IsEnd words told old new Budget = Serves words
+IsEnd words told old new (Worn ordinal fill number) = Serves words × (2 ^ 64 - 1 ≤ number)
+IsEnd words told old new NoStore = IsRun words × (told → IsNoStore old.files)
+IsEnd words told old new Exists = (limits : Limits) × Makes words limits × (told → IsTaken old.files)
+
+-- the console was told this
+abbrev pub OnConsole : Mark → Mark → List ℕ → Type 0
+OnConsole start mark line = console_of mark ≡ console_of start ++ line
+
+-- The line of the stop is missing only where the count of faults of the ports rose.
+abbrev pub TellsLine : HostState → HostState → Stop → Type 0
+TellsLine old new stop = OnConsole (mark_now old) (mark_now new) (line_of stop)
+    ⊎ (OnConsole (mark_now old) (mark_now new) [] × Rose old.port_faults new.port_faults)
+
+-- The status is 0 and the console was told nothing, or it is that of a stop that has its cause and whose line was told.
+abbrev pub EndsBy : List (List ℕ) → Type 0 → HostState → HostState → ℕ → Type 0
+EndsBy words told old new status = ((status ≡ 0) × (told → OnConsole (mark_now old) (mark_now new) []))
+    ⊎ ((stop : Stop) × (status ≡ status_of stop) × IsEnd words told old new stop × (told → TellsLine old new stop))
+
+-- it is one of these three
+abbrev pub IsOneOf : ℕ → ℕ → ℕ → ℕ → Type 0
+IsOneOf a b c status = (status ≡ a) ⊎ ((status ≡ b) ⊎ (status ≡ c))
+
+-- neither a fault of the outside nor want of memory ended the call
+pub record IsOwn (status : ℕ) : Type 0 where
+  pub no_disk : status ≢ 3
+  pub no_port : status ≢ 4
+  pub no_memory : status ≢ 5
+
+-- a store is there already
+abbrev pub IsExists : Stop → Type 0
+IsExists s = s ≡ Exists
+
+-- Why a run stops: as it is opened, or as it is served.
+abbrev pub IsRunStop : Type 0 → HostState → HostState → Stop → Type 0
+IsRunStop told old new NoStore = told → IsNoStore old.files
+IsRunStop told old new (Damaged file block) = (file ≡ 0) × (told → IsDamagedAt block old.files)
+IsRunStop told old new Disk = Rose old.disk_faults new.disk_faults
+IsRunStop told old new Port = Rose old.port_faults new.port_faults
+IsRunStop told old new Memory = Unit {0}
+IsRunStop told old new Budget = Unit {0}
+IsRunStop told old new (Worn ordinal fill number) = 2 ^ 64 - 1 ≤ number
+IsRunStop told old new Usage = ⊥
+IsRunStop told old new Exists = ⊥
+
+-- Why a store that is made stops: as it is made, or as it is served.
+abbrev pub IsScratchStop : Type 0 → HostState → HostState → Stop → Type 0
+IsScratchStop told old new Exists = told → IsTaken old.files
+IsScratchStop told old new Disk = Rose old.disk_faults new.disk_faults
+IsScratchStop told old new Port = Rose old.port_faults new.port_faults
+IsScratchStop told old new Memory = Unit {0}
+IsScratchStop told old new Budget = Unit {0}
+IsScratchStop told old new (Worn ordinal fill number) = 2 ^ 64 - 1 ≤ number
+IsScratchStop told old new Usage = ⊥
+IsScratchStop told old new (Damaged file block) = ⊥
+IsScratchStop told old new NoStore = ⊥
+
+-- what ends a call that finds no store, or one already, before it serves any turn
+abbrev pub OnlyBy : (Stop → Type 0) → Result (Unit {0}) Stop → Type 0
+OnlyBy is (Ok v) = ⊥
+OnlyBy is (Err s) = is s
+
+abbrev pub IsMissing : Stop → Type 0
+IsMissing s = (s ≡ NoStore) ⊎ ((s ≡ Disk) ⊎ (s ≡ Memory))
+
+abbrev pub IsThere : Stop → Type 0
+IsThere s = (s ≡ Exists) ⊎ ((s ≡ Disk) ⊎ (s ≡ Memory))
+
+-- A sound disk is opened: no store is missing, and none is damaged.
+abbrev pub IsServing : Stop → Type 0
+IsServing s = (s ≡ Disk) ⊎ ((s ≡ Port) ⊎ ((s ≡ Memory) ⊎ ((s ≡ Budget) ⊎ ((ordinal fill number : ℕ) × (s ≡ Worn ordinal fill number)))))
+
+abbrev pub IsRefused : Stop → Type 0
+IsRefused s = (s ≡ Usage) ⊎ (s ≡ Memory)
+
+-- or there is a store already
+abbrev pub IsServingOrThere : Stop → Type 0
+IsServingOrThere s = IsServing s ⊎ (s ≡ Exists)
+
+-- What turns that were served leave: where the last was `Done`, where they are spent, and where they have worn the store.
+pub record HasServed (view : View) (start : Mark) (new : HostState) (result : Result (Unit {0}) Stop) : Type 0 where
+  pub done : OnOk result (EndsDone view start (mark_now new))
+  pub kept : OnOk result (KeepsLast view start (mark_now new) new)
+  pub fresh : OnOk result (¬ (IsWorn view start (mark_now new)))
+  pub spent : OnStop IsBudget result (AreSpent start (mark_now new))
+  pub complete : OnStop IsBudget result (IsComplete view start (mark_now new))
+  pub fresh_spent : OnStop IsBudget result (¬ (IsWorn view start (mark_now new)))
+  pub worn : OnStop IsWornStop result (IsWorn view start (mark_now new))
+
+-- Where no call of the outside failed, the turn `Done` ends the call with status 0, unless memory ran out, `Done` isn't
+-- among the first 2 ^ 32 turns, or the store is worn.
+abbrev pub IsFinished : ℕ → View → Mark → Mark → Type 0
+IsFinished status view start mark = (status ≡ 0) ⊎ ((status ≡ 5) ⊎ (AreSpent start mark ⊎ IsWorn view start mark))

@@ -1,0 +1,10 @@
+pub mod Bodies
+pub mod Frames
+pub mod Front
+pub mod LowBytes
+pub mod Making
+pub mod Reading
+pub mod Records
+pub mod Refusals
+pub mod Same
+pub mod Spelled

@@ -1,0 +1,12 @@
+use Rattle.std.proofs.Common.{◌≡◌, ◌≤◌, ◌++◌, length, drop}
+use Rattle.std.specs.List.{flat_map, AllByRecursion}
+use Rattle.ak_view.specs.Payload.{IsSeries, series_bytes}
+use Rattle.ak_view.proofs.payload.read_all.Given as goal
+
+abbrev pub invariant-loop : goal.invariant-loop
+invariant-loop l = record {
+  count : length l.all.items ≡ l.counter;
+  within : l.at ≤ length l.from;
+  each : AllByRecursion IsSeries l.all.items;
+  bytes : drop l.start l.from ≡ flat_map series_bytes l.all.items ++ drop l.at l.from;
+}

@@ -1,0 +1,18 @@
+use Rattle.std.proofs.Common.{◌≡◌, ◌≤◌}
+use Rattle.ak_host.specs.Files.{file_at}
+use Rattle.ak_host.specs.Moments.{DiskPasses}
+use Rattle.ak_gate.specs.Fits.{Fits, Stands}
+use Rattle.ak_gate.specs.Slots.{body_at, other}
+use Rattle.ak_view.proofs.Bodies.{IsWritten}
+use Rattle.ak_view.proofs.saving.write_body.Given as goal
+
+abbrev pub invariant-loop-i : goal.invariant-loop-i
+invariant-loop-i g l = record {
+  gate : l.gate ≡ l.fn.gate;
+  sizes : (g.D.Outside.state l.disk).sizes ≡ (g.D.Outside.state l.fn.disk).sizes;
+  later : (g.D.Outside.state l.fn.disk).disk_faults ≤ (g.D.Outside.state l.disk).disk_faults;
+  port_faults : (g.D.Outside.state l.disk).port_faults ≡ (g.D.Outside.state l.fn.disk).port_faults;
+  fits : g.D.Outside.tells → Fits l.gate (g.D.Outside.state l.disk);
+  written : g.D.Outside.tells → IsWritten l.frame (body_at l.fn.gate.slot (other l.fn.gate.newest) (file_at (g.D.Outside.state l.disk).files 0)) l.i;
+  moments : g.D.Outside.tells → DiskPasses (λ left. Stands l.fn.gate (file_at (g.D.Outside.state l.fn.disk).files 0) (file_at left 0)) (g.D.Outside.state l.fn.disk) (g.D.Outside.state l.disk);
+}

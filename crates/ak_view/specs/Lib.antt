@@ -1,0 +1,4 @@
+pub mod Payload
+pub mod Views
+pub mod Stops
+pub mod Bodies
