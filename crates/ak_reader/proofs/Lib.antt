@@ -1,0 +1,10 @@
+pub mod Back
+pub mod Complete
+pub mod Completes
+pub mod Goes
+pub mod KindsAre
+pub mod Readers
+pub mod Rows
+pub mod Runs
+pub mod Sound
+pub mod Whole

@@ -1,0 +1,13 @@
+//! The reader of a session's messages, over the whole grammar of the protocol.
+#![tactic(auto)]
+
+mod fault;
+mod message;
+mod resp;
+mod spot;
+
+pub use message::{Message, Part, PartKind, Parts, RespError};
+pub use resp::{Resp, every_reading, fault_stays, one_reading, one_spelling};
+
+#[cfg(test)]
+mod tests;
