@@ -1,0 +1,30 @@
+-- Names as keys of a set.
+use Rattle.std.proofs.Common.{◌≡◌, ◌+◌, ℕ, suc, Bool, false, nat_lt, not, ◌||◌, cond, List, [], ◌∷◌, ◌++◌, map, length, position, bytes_eq, Some, None, String, Global, string_bytes, refl, ap, ap₂, sym, ◌∙◌}
+use Rattle.std.specs.List.{prefix_len, list_any}
+use Rattle.std.proofs.lemmas.List.{map-append}
+use Rattle.indexmap.specs.IndexSet.{insert_key}
+
+prefix_len-map : {X Y : Type 0} (f : X → Y) (p : Y → Bool) (xs : List X) → prefix_len p (map f xs) ≡ prefix_len (λ x. p (f x)) xs
+prefix_len-map f p [] = refl
+prefix_len-map f p (x ∷ xs) = ap (λ n. cond (p (f x)) (1 + n) 0) (prefix_len-map f p xs)
+
+length-map : {X Y : Type 0} (f : X → Y) (xs : List X) → length (map f xs) ≡ length xs
+length-map f [] = refl
+length-map f (x ∷ xs) = ap suc (length-map f xs)
+
+-- a search in what a function makes of the items
+pub position-map : {X Y : Type 0} (f : X → Y) (p : Y → Bool) (xs : List X) → position p (map f xs) ≡ position (λ x. p (f x)) xs
+position-map f p xs = ap₂ (λ a b. cond (nat_lt a b) (Some a) None) (prefix_len-map f (λ y. not (p y)) xs) (length-map f xs)
+
+list_any-map : {X Y : Type 0} (f : X → Y) (p : Y → Bool) (xs : List X) → list_any p (map f xs) ≡ list_any (λ x. p (f x)) xs
+list_any-map f p [] = refl
+list_any-map f p (x ∷ xs) = ap (λ b. p (f x) || b) (list_any-map f p xs)
+
+-- a name that no key has goes last
+pub added_last : (k : String Global) (ks : List (String Global)) (name : List ℕ) → string_bytes k ≡ name
+    → list_any (λ n. bytes_eq name n) (map string_bytes ks) ≡ false
+    → map string_bytes (insert_key (λ a b. bytes_eq (string_bytes a) (string_bytes b)) ks k) ≡ map string_bytes ks ++ name ∷ []
+added_last k ks name is none =
+    let absent : list_any (λ x. bytes_eq (string_bytes k) (string_bytes x)) ks ≡ false =
+    rw is (sym (list_any-map string_bytes (λ n. bytes_eq name n) ks) ∙ none) in
+    rw (absent, ← is) (map-append string_bytes ks (k ∷ []))

@@ -1,0 +1,18 @@
+//! Names: what a text names, and the numbers of names.
+#![tactic(auto)]
+
+mod count;
+mod error;
+mod index;
+mod laws;
+mod parts;
+mod read;
+mod tags;
+#[cfg(test)]
+mod tests;
+
+pub use count::metrics;
+pub use error::NameError;
+pub use index::Index;
+pub use laws::one_reading;
+pub use read::read_names;
