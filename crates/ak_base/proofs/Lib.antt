@@ -1,1 +1,5 @@
+pub mod Basics
 pub mod Histories
+pub mod Numerals
+pub mod Decimals
+pub mod Readings

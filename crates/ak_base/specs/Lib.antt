@@ -2,3 +2,4 @@ pub mod Points
 pub mod Refusals
 pub mod Stops
 pub mod Ranges
+pub mod Values

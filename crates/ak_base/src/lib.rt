@@ -1,13 +1,15 @@
-//! The words that every layer shares: lists and texts, points, addresses, limits, and what a session or a command is
-//! answered.
+//! The words that every layer shares: lists and texts, points, values, addresses, limits, and what a session or a
+//! command is answered.
 #![tactic(auto)]
 
+mod digits;
 mod limits;
 mod point;
 mod refusal;
 mod sequence;
 mod stop;
 mod text;
+mod value;
 
 pub use limits::Limits;
 pub use point::{Addr, Block, Point};
@@ -15,3 +17,7 @@ pub use refusal::Refusal;
 pub use sequence::{Bytes, Ids, Sequence, Texts};
 pub use stop::{Line, Stop};
 pub use text::Text;
+pub use value::read_value;
+
+#[cfg(test)]
+mod tests;

@@ -3,6 +3,7 @@ use Rattle.std.proofs.Common.{◌≡◌, ◌≢◌, ◌⊎◌, inl, inr, ℕ, ze
 use Rattle.std.proofs.lemmas.Bool.{cases_Bool}
 use Rattle.std.proofs.lemmas.Bool.Decides.{nat_tests}
 use Rattle.std.proofs.lemmas.List.{length-set, take-set-le, drop-set-lt, drop-set-add}
+use Rattle.ak_base.proofs.Basics.{not_both}
 use Rattle.ak_host.specs.Files.{zero_block, zero_blocks}
 use Rattle.ak_gate.specs.declared.half.Half.{Half}
 use Rattle.ak_gate.specs.declared.half.Half.TheVariants.{First, Second}
@@ -73,9 +74,6 @@ body_leaves_gate slot Second Second file i block = gate_kept Second file _ block
 other_index : (half : Half) → gate_index (other half) ≢ gate_index half
 other_index First same = absurd (omega arith)
 other_index Second same = absurd (omega arith)
-
-not_both : (b : Bool) → b ≡ true → b ≡ false → ⊥
-not_both b is_true is_false = cc
 
 other_other : (half : Half) → other (other half) ≡ half
 other_other First = refl

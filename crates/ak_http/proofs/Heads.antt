@@ -2,6 +2,7 @@
 use Rattle.std.proofs.Common.{ℕ, ◌≡◌, ◌+◌, ◌<◌, ◌≤◌, ◌⊎◌, inl, inr, List, [], ◌∷◌, ◌++◌, Some, None, Result, Ok, Err, IfOk, length, refl, sym, ◌∙◌, ap, subst, arith, append_assoc, append-nil, suc, lit<}
 use Rattle.std.proofs.lemmas.List.{append_cancel_left, length-append}
 use Rattle.std.proofs.lemmas.Bool.{cases_lt}
+use Rattle.ak_base.proofs.Basics.{longer_front}
 use Rattle.httparse.proofs.GrammarLemmas.{request_unique}
 use Rattle.ak_http.specs.declared.request.Request.{Request}
 use Rattle.ak_http.specs.declared.request.HttpError.{HttpError}
@@ -14,18 +15,6 @@ use Rattle.ak_http.specs.declared.stage.Outcome.{Outcome}
 use Rattle.ak_http.specs.Standing.{StandsAt, ComesTo}
 
 -- ---- Lists
-
--- A list that splits in two ways: the first part of one way begins with that of the other.
-pub longer_front : (a b x y : List ℕ) → a ++ b ≡ x ++ y → length a ≤ length x → (w : List ℕ) × (x ≡ a ++ w) × (b ≡ w ++ y)
-longer_front [] b x y e h = (x, refl, e)
-longer_front (c ∷ cs) b [] y e h = let none : suc (length cs) ≤ 0 = h in absurd (omega arith)
-longer_front (c ∷ cs) b (d ∷ xs) y e h =
-    let head : c ≡ d = cc in
-    let tail : cs ++ b ≡ xs ++ y = cc in
-    let some : suc (length cs) ≤ suc (length xs) = h in
-    let rest = longer_front cs b xs y tail (omega arith) in
-    let joined : xs ≡ cs ++ rest.0 = rest.1 in
-    (rest.0, cc, rest.2)
 
 pub cases_le : (n m : ℕ) → (n ≤ m) ⊎ (m ≤ n)
 cases_le n m = elim (cases_lt n m) [ inl h ↦ inl (omega arith) | inr h ↦ inr h ]

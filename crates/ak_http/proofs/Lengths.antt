@@ -4,6 +4,7 @@ use Rattle.std.proofs.lemmas.List.{at_drop_more}
 use Rattle.std.proofs.lemmas.Bool.Decides.{nat_tests}
 use Rattle.std.specs.Char.{is_ascii_digit}
 use Rattle.std.specs.List.{list_any, list_all}
+use Rattle.ak_base.proofs.Basics.{is_eq}
 use Rattle.httparse.specs.declared.spans.HeaderSpan.{HeaderSpan}
 use Rattle.httparse.specs.Grammar.{Field}
 use Rattle.httparse.specs.Spans.{AreFieldsAt, header_bytes, name_and_value, span_bytes}
@@ -16,9 +17,6 @@ not_true false e = refl
 not_false : (b : Bool) → not b ≡ false → b ≡ true
 not_false true e = refl
 not_false false e = cc
-
-is_eq : (a b : ℕ) → nat_eq a b ≡ true → a ≡ b
-is_eq a b e = grind (arith, nat_tests)
 
 -- ---- Names
 

@@ -4,7 +4,8 @@ use Rattle.std.proofs.lemmas.List.{append_cancel_left, length-append}
 use Rattle.ak_http.specs.declared.request.Request.{Request}
 use Rattle.ak_http.specs.declared.request.HttpError.{HttpError}
 use Rattle.ak_http.specs.Grammar.{Spells, SpellsRow, Splits, IsFault, HasFaultAt, HasNoFault}
-use Rattle.ak_http.proofs.Heads.{longer_front, cases_le, no_length, both_none, one_cut, cut_some, fault_cut, same_fault, one_spelling, HasNoFront, HasNoBadFront, no_front_at, no_front_behind, start_stands}
+use Rattle.ak_base.proofs.Basics.{longer_front}
+use Rattle.ak_http.proofs.Heads.{cases_le, no_length, both_none, one_cut, cut_some, fault_cut, same_fault, one_spelling, HasNoFront, HasNoBadFront, no_front_at, no_front_behind, start_stands}
 use Rattle.ak_http.specs.declared.stage.Stage.TheVariants.{Head}
 
 no_spelling : (m : Request) → Spells [] m → ⊥

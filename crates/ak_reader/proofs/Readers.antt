@@ -1,6 +1,7 @@
 -- A reader stands for the row that it has read.
 use Rattle.std.proofs.Common.{ℕ, ◌≡◌, ◌+◌, ◌≤◌, ◌++◌, ◌⊎◌, inl, inr, List, [], ◌∷◌, Bool, true, false, Option, Some, None, Result, Ok, Err, length, take, drop, min, suc, refl, sym, subst, ◌∙◌, ap, arith, append_assoc, append-nil, length-append, lit≤}
 use Rattle.std.proofs.lemmas.List.{take_at, get_or_at}
+use Rattle.ak_base.proofs.Basics.{not_both}
 use Rattle.ak_base.specs.declared.refusal.Refusal.{Refusal}
 use Rattle.ak_reader.specs.declared.fault.Fault.{Fault}
 use Rattle.ak_reader.specs.declared.message.Message.{Message}
@@ -131,9 +132,6 @@ back r row ms e h =
     back_at r.spot r.place r.refusal row h.rest ms (none_when r.refusal e) h.splits at_end.1 at_end.2
 
 -- ---- Behind a fault
-
-not_both : (b : Bool) → b ≡ true → b ≡ false → ⊥
-not_both b t f = cc
 
 pub fault_stays : (r : Resp) (row more : List ℕ) (ms : List Message) → is_faulted r ≡ true → StandsFor r row ms → StandsFor r (row ++ more) ms
 fault_stays r row more ms t h =

@@ -2,6 +2,7 @@
 use Rattle.std.proofs.Common.{ℕ, ◌≡◌, ◌+◌, ◌<◌, ◌≤◌, ◌++◌, inl, inr, List, [], ◌∷◌, length, take, drop, get_or, min, Some, suc, refl, sym, subst, ◌∙◌, ap, arith, append_assoc, append-nil, take-append-drop, lit≤}
 use Rattle.std.proofs.lemmas.List.{append_cancel_left, length-append, take-take, take-append-le, take_at, get_or_append_left}
 use Rattle.std.proofs.lemmas.Bool.{cases_lt}
+use Rattle.ak_base.proofs.Basics.{longer_front}
 use Rattle.ak_base.specs.declared.refusal.Refusal.{Refusal}
 use Rattle.ak_reader.specs.declared.message.Message.{Message}
 use Rattle.ak_reader.specs.declared.spot.Spot.{Spot}
@@ -11,18 +12,6 @@ use Rattle.ak_reader.specs.Standing.{StandsAt, HasRefusal, last_place}
 use Rattle.ak_reader.proofs.Complete.{row_goes}
 use Rattle.ak_reader.proofs.Back.{stands_goes}
 use Rattle.ak_reader.proofs.Whole.{prefix_free}
-
--- A list that splits in two ways: the first part of one way begins with that of the other.
-longer_front : (a b x y : List ℕ) → a ++ b ≡ x ++ y → length a ≤ length x → (w : List ℕ) × (x ≡ a ++ w) × (b ≡ w ++ y)
-longer_front [] b x y e h = (x, refl, e)
-longer_front (c ∷ cs) b [] y e h = let none : suc (length cs) ≤ 0 = h in absurd (omega arith)
-longer_front (c ∷ cs) b (d ∷ xs) y e h =
-    let head : c ≡ d = cc in
-    let tail : cs ++ b ≡ xs ++ y = cc in
-    let some : suc (length cs) ≤ suc (length xs) = h in
-    let rest = longer_front cs b xs y tail (omega arith) in
-    let joined : xs ≡ cs ++ rest.0 = rest.1 in
-    (rest.0, cc, rest.2)
 
 -- ---- How a row splits
 

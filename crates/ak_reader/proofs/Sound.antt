@@ -4,6 +4,7 @@ use Rattle.std.proofs.lemmas.Bool.Decides.{nat_tests}
 use Rattle.std.proofs.lemmas.List.{map-append}
 use Rattle.std.specs.List.{AllByRecursion, list_any}
 use Rattle.std.specs.Cmp.Lexicographic.{bytes_decides}
+use Rattle.ak_base.proofs.Basics.{is_eq}
 use Rattle.ak_reader.specs.declared.message.PartKind.{PartKind}
 use Rattle.ak_reader.specs.declared.message.PartKind.TheVariants as kind
 use Rattle.ak_reader.specs.declared.message.Part.{Part}
@@ -30,9 +31,6 @@ Sound (refused f) bytes = Unit {0}
 either : (b : Bool) (x y : Outcome) (bytes : List ℕ) → (b ≡ true → Sound x bytes) → (b ≡ false → Sound y bytes) → Sound (cond b x y) bytes
 either true x y bytes h k = h refl
 either false x y bytes h k = k refl
-
-is_eq : (a b : ℕ) → nat_eq a b ≡ true → a ≡ b
-is_eq a b e = grind (arith, nat_tests)
 
 is_ne : (a b : ℕ) → nat_eq a b ≡ false → a ≢ b
 is_ne a b e = grind (arith, nat_tests)

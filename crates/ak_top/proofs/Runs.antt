@@ -2,6 +2,7 @@
 use Rattle.std.proofs.Common.{◌≡◌, ◌⊎◌, inl, inr, ℕ, ◌+◌, ◌-◌, ◌^◌, ◌≤◌, Bool, true, false, List, [], ◌∷◌, ◌++◌, length, take, drop, take-append-drop, refl, sym, ◌∙◌, ap, subst, arith, append_assoc, length-append}
 use Rattle.std.specs.List.{AllByRecursion}
 use Rattle.std.proofs.lemmas.List.{append-nil, take_at}
+use Rattle.ak_base.proofs.Basics.{not_both}
 use Rattle.ak_host.specs.Files.{Files}
 use Rattle.ak_host.specs.Marks.{Mark, Taken, piece, ended, idle, done, Telling, told_to}
 use Rattle.ak_host.specs.Moments.{HostState}
@@ -133,9 +134,6 @@ same_behind (x ∷ xs) ys zs e = same_behind xs ys zs (let tails : xs ++ ys ≡ 
 
 pub same_since : {start mark : Mark} (a b : Since start mark) → a.turns ≡ b.turns
 same_since {start} a b = same_behind start.turns a.turns b.turns (sym a.turns_are ∙ b.turns_are)
-
-not_both : (b : Bool) → b ≡ true → b ≡ false → ⊥
-not_both b is_true is_false = cc
 
 -- a run that leads to a world that isn't worn has worn no store
 pub fresh_run : (view : View) (start mark : Mark) (since : Since start mark) → IsWorn view start mark → (last : World) (answer : List Reply) → RunsFrom (world_of view) since.turns last answer → last.content.worn ≡ false → ⊥

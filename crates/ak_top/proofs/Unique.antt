@@ -2,6 +2,7 @@
 use Rattle.std.proofs.Common.{◌≡◌, ◌↔◌, inl, inr, ℕ, Bool, true, false, not, ◌&&◌, if◌then◌else◌, List, [], ◌∷◌, ◌++◌, Option, Some, None, refl, sym, ◌∙◌, ap, subst}
 use Rattle.std.proofs.lemmas.Bool.{cases_Bool}
 use Rattle.std.proofs.lemmas.List.{append_cancel_left}
+use Rattle.ak_base.proofs.Basics.{not_both}
 use Rattle.ak_base.specs.declared.refusal.Refusal.TheVariants.{NotBuilt, Cut}
 use Rattle.ak_host.specs.Marks.{Mark, Taken, piece, ended, idle, done}
 use Rattle.ak_resp.specs.declared.message.Message.{Message}
@@ -74,9 +75,6 @@ one_act world (ended port) v w a b (inr g) (inl h) = absurd (g.0 h.0)
 one_act world (ended port) v w a b (inr g) (inr h) = one_other world v w a b [] g.1 h.1
 one_act world idle v w a b g h = one_other world v w a b [] g h
 one_act world done v w a b g h = one_end world v w (after_view world.content) a b g h
-
-not_both : (b : Bool) → b ≡ true → b ≡ false → ⊥
-not_both b is_true is_false = cc
 
 -- One turn leads to one world, and is answered one thing.
 one_turn : (world : World) (turn : Taken) (v w : World) (a b : List Reply) → Gives world turn v a → Gives world turn w b → (v ≡ w) × (a ≡ b)

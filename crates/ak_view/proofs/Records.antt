@@ -2,6 +2,7 @@
 use Rattle.std.proofs.Common.{◌≡◌, ◌≢◌, ◌⊎◌, inl, inr, ℕ, ◌+◌, ◌<◌, Bool, true, false, List, length, slice_set, refl, sym, ◌∙◌, ap, subst, arith, Option, Some}
 use Rattle.std.proofs.lemmas.Bool.{cases_Bool}
 use Rattle.std.proofs.lemmas.List.{length-set}
+use Rattle.ak_base.proofs.Basics.{not_both}
 use Rattle.ak_host.specs.Files.{Files, MayBeTorn, file_at}
 use Rattle.ak_host.specs.Moments.{HostState, LeavesNow, DiskPasses}
 use Rattle.ak_host.specs.Calls.{Follows}
@@ -37,9 +38,6 @@ body_goes_on view now start old new i same closed within fits_start here fits so
     let fits_view : Fits view old = subst (λ (v : View). Fits v old) same fits in
     let torn_view = subst (λ (v : View). DiskPasses (Follows (MayBeTorn 0 (body_index v.slot (other v.newest) + i)) old) old new) same torn in
     disk_goes_on so_far torn_view (λ disk follows. stands_on view (file_at start.files 0) (file_at old.files 0) (file_at disk 0) begun (body_left view old fits_view _ i refl closed within disk follows))
-
-not_both : (b : Bool) → b ≡ true → b ≡ false → ⊥
-not_both b is_true is_false = cc
 
 this_or_other : (newest half : Half) → (half ≡ newest) ⊎ (half ≡ other newest)
 this_or_other First First = inl refl
