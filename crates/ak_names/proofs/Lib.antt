@@ -1,5 +1,7 @@
 pub mod Apart
 pub mod Counts
+pub mod EveryText
+pub mod Filled
 pub mod Keys
 pub mod Readings
 pub mod Sorted

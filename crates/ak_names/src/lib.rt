@@ -14,5 +14,5 @@ mod tests;
 pub use count::metrics;
 pub use error::NameError;
 pub use index::Index;
-pub use laws::one_reading;
+pub use laws::{every_reading, one_reading};
 pub use read::read_names;
