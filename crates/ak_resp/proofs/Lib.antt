@@ -1,7 +1,10 @@
-pub mod Ends
-pub mod Follows
+pub mod Back
+pub mod Complete
+pub mod Completes
+pub mod Goes
+pub mod KindsAre
 pub mod Readers
 pub mod Rows
-pub mod Small
+pub mod Runs
 pub mod Sound
-pub mod Readings
+pub mod Whole

@@ -1,271 +1,357 @@
--- What a byte makes of a spot is valid, and what completes that completes the spot with the byte.
-use Rattle.std.proofs.Common.{ℕ, ◌≡◌, ◌≢◌, ◌+◌, ◌*◌, ◌-◌, ◌^◌, ◌<◌, ◌≤◌, inl, inr, ℤ, pos, ◌-ℤ◌, List, [], ◌∷◌, ◌++◌, Bool, true, false, not, ◌&&◌, ◌||◌, cond, nat_eq, nat_lt, nat_le, length, get_or, drop, refl, sym, ◌∙◌, ap, subst, arith, append_assoc, append-nil, codes, suc, lit<, lit≤}
-use Rattle.std.proofs.lemmas.List.{drop_more, drop_all, length-append}
+-- What is read is spelled so.
+use Rattle.std.proofs.Common.{ℕ, ◌≡◌, ◌≢◌, ◌+◌, ◌*◌, ◌-◌, ◌<◌, ◌≤◌, ◌++◌, ◌⊎◌, List, [], ◌∷◌, Bool, true, false, ◌||◌, length, map, Option, Some, None, Result, Ok, Err, refl, sym, ◌∙◌, ap, arith, append_assoc, append-nil, length-append, inl, inr, codes, bytes_eq, cond, not, nat_le, nat_lt, nat_eq, lit≤}
 use Rattle.std.proofs.lemmas.Bool.Decides.{nat_tests}
-use Rattle.std.specs.List.{AllByRecursion}
-use Rattle.ak_resp.specs.declared.message.Message.{Message}
-use Rattle.ak_resp.specs.declared.message.Message.TheVariants.{Put, Query, Flush}
+use Rattle.std.proofs.lemmas.List.{map-append}
+use Rattle.std.specs.List.{AllByRecursion, list_any}
+use Rattle.std.specs.Cmp.Lexicographic.{bytes_decides}
+use Rattle.ak_base.proofs.Basics.{is_eq}
+use Rattle.ak_resp.specs.declared.message.PartKind.{PartKind}
+use Rattle.ak_resp.specs.declared.message.PartKind.TheVariants as kind
+use Rattle.ak_resp.specs.declared.message.Part.{Part}
+use Rattle.ak_resp.specs.declared.message.Message.TheVariants as message
+use Rattle.ak_resp.specs.declared.fault.Fault.{Fault}
+use Rattle.ak_resp.specs.declared.fault.Fault.TheVariants as fault
 use Rattle.ak_resp.specs.declared.spot.Spot.{Spot}
-use Rattle.ak_resp.specs.declared.spot.Spot.TheVariants.{Start, First, Name, NameEnd, Time, TimeEnd, ValueFirst, Value, ValueEnd, Control, QueryFront, FlushEnd, LengthFirst, Length, Open, Metric, Close}
-use Rattle.ak_resp.specs.declared.spot.Outcome.{Outcome}
-use Rattle.ak_resp.specs.declared.spot.Outcome.TheVariants.{Going, Whole, Refused}
-use Rattle.ak_resp.specs.declared.spot.TextRead.{TextRead}
-use Rattle.ak_resp.specs.declared.spot.TextRead.TheVariants.{Wrong, On, Done}
-use Rattle.ak_resp.specs.Grammar.{IsNameByte, IsDigit, number_from, IsNumber, IsLength, query_text, Spells}
-use Rattle.ak_resp.specs.Machine.{is_digit, is_name_byte, is_metric_byte, with_digit, value_of, read_text, number_mark, query_mark, flush_mark, text_front, text_end, at_start, at_first, at_name, name_end_as, at_time, time_end_as, at_value_first, at_value, at_value_end, at_control, query_front_as, flush_end_as, at_length_first, at_length, open_as, at_metric, close_as, step, is_start, IsValid, DigitsLeft, AreNumberLines, IsQueryEnd, Completes}
-use Rattle.ak_resp.proofs.Small.{is_eq, is_ne, and_true, digit_from, name_byte_from, metric_byte_from, value_exact, digit_exact, digits_back}
+use Rattle.ak_resp.specs.declared.spot.Progress.{Progress}
+use Rattle.ak_resp.specs.declared.spot.Progress.TheVariants.{Name, Time, Value, Item, Json}
+use Rattle.ak_resp.specs.declared.spot.Within.{Within}
+use Rattle.ak_resp.specs.declared.spot.Within.TheVariants.{Start, Simple, Integer, BulkHead, ArrayHead, BulkHeadEnd, ArrayHeadEnd, Content, PartEnd}
+use Rattle.ak_resp.specs.Grammar.{crlf, IsLineByte, IsDigit, number_from, IsNumber, IsInteger, Written, one, array, SpellsPart, SpellsParts, IsText, IsItem, BeginsControl, Spells}
+use Rattle.ak_resp.specs.Standing.{type_byte, AreDone, IsIntegerFront, AreDigits, IsBegun, StandsAt}
+use Rattle.ak_resp.specs.Machine.{Outcome, going, whole, refused, first, step, between, begin_as, bulk_head_as, array_head_as, finish, items, is_control}
+use Rattle.ak_resp.specs.Kinds.{allows, is_digit, goes_on}
+use Rattle.ak_resp.proofs.Runs.{spot}
 
--- what an outcome says of a spot and a byte
-abbrev pub Sound : Spot → ℕ → Outcome → Type 0
-Sound s b (Going t) = IsValid t × (is_start t ≡ false) × ((bs : List ℕ) (m : Message) → Completes t bs m → Completes s (b ∷ bs) m)
-Sound s b (Whole n) = Completes s (b ∷ []) n
-Sound s b Refused = Unit {0}
+-- what an outcome says of the bytes of a message
+abbrev pub Sound : Outcome → List ℕ → Type 0
+Sound (going t) bytes = StandsAt t bytes
+Sound (whole m) bytes = Spells bytes m
+Sound (refused f) bytes = Unit {0}
 
-either : (s : Spot) (b : ℕ) (t : Bool) (x y : Outcome) → (t ≡ true → Sound s b x) → (t ≡ false → Sound s b y) → Sound s b (cond t x y)
-either s b true x y h k = h refl
-either s b false x y h k = k refl
+either : (b : Bool) (x y : Outcome) (bytes : List ℕ) → (b ≡ true → Sound x bytes) → (b ≡ false → Sound y bytes) → Sound (cond b x y) bytes
+either true x y bytes h k = h refl
+either false x y bytes h k = k refl
 
--- ---- Texts
+is_ne : (a b : ℕ) → nat_eq a b ≡ false → a ≢ b
+is_ne a b e = grind (arith, nat_tests)
 
-abbrev TextSound : TextRead → List ℕ → ℕ → ℕ → Type 0
-TextSound Wrong text at b = Unit {0}
-TextSound (On k) text at b = (k < length text) × (drop at text ≡ b ∷ drop k text)
-TextSound Done text at b = drop at text ≡ b ∷ []
+moves : (p : Progress) (w v : Within) (c d rest : List ℕ) (b : ℕ) → StandsAt (spot p w c) rest → ((y : List ℕ) → IsBegun p w c y → IsBegun p v d (y ++ b ∷ [])) →
+    StandsAt (spot p v d) (rest ++ b ∷ [])
+moves p w v c d rest b s f = record {
+  before = s.before;
+  begun = s.begun ++ b ∷ [];
+  parts = s.parts;
+  whole = ap (λ xs. xs ++ b ∷ []) s.whole ∙ append_assoc s.before s.begun (b ∷ []);
+  done = s.done;
+  spelled = s.spelled;
+  part = f s.begun s.part;
+}
 
-text_either : (t u : Bool) (text : List ℕ) (at k b : ℕ) → (t ≡ false → u ≡ true → drop at text ≡ b ∷ []) → (t ≡ false → u ≡ false → (k < length text) × (drop at text ≡ b ∷ drop k text)) →
-    TextSound (cond t Wrong (cond u Done (On k))) text at b
-text_either true u text at k b f g = tt
-text_either false true text at k b f g = f refl refl
-text_either false false text at k b f g = g refl refl
+-- ---- The first byte of a part
 
-byte_read : (text : List ℕ) (at b : ℕ) → (nat_le (length text) at || not (nat_eq (get_or text at 0) b)) ≡ false → get_or text at 0 ≡ b
-byte_read text at b e = grind (arith, nat_tests)
+opens_or : (p : Progress) (rest c : List ℕ) (b : ℕ) (t : Bool) (x y : Option Within) →
+    (t ≡ true → Sound (begin_as (spot p Start c) b x) rest) → (t ≡ false → Sound (begin_as (spot p Start c) b y) rest) → Sound (begin_as (spot p Start c) b (cond t x y)) rest
+opens_or p rest c b true x y h k = h refl
+opens_or p rest c b false x y h k = k refl
 
-text_sound : (text : List ℕ) (at b : ℕ) → at < length text → TextSound (read_text text at b) text at b
-text_sound text at b h =
-    let here : drop at text ≡ get_or text at 0 ∷ drop (at + 1) text = drop_more text at 0 h in
-    text_either _ (nat_eq (at + 1) (length text)) text at (at + 1) b
-    (λ t u. let byte = byte_read text at b t in
-    let all : length text ≤ at + 1 = grind (arith, nat_tests) in
-    let none : drop (at + 1) text ≡ [] = drop_all (at + 1) text all in
-    rw (here, byte, none) refl)
-    (λ t u. let byte = byte_read text at b t in
-    let more : at + 1 ≢ length text = is_ne (at + 1) (length text) u in
-    (omega arith, rw (here, byte) refl))
+opens : (p : Progress) (w : Within) (c rest : List ℕ) (b : ℕ) → StandsAt (spot p Start c) rest → (allows p b ≡ true → (y : List ℕ) → IsBegun p Start c y → IsBegun p w c (y ++ b ∷ [])) →
+    Sound (begin_as (spot p Start c) b (Some w)) (rest ++ b ∷ [])
+opens p w c rest b s f = either (allows p b) (going (spot p w c)) (refused fault.BadShape) (rest ++ b ∷ []) (λ e. moves p Start w c c rest b s (f e)) (λ e. tt)
 
-text_joins : (text behind bs : List ℕ) (at b k : ℕ) → drop at text ≡ b ∷ drop k text → bs ≡ drop k text ++ behind → b ∷ bs ≡ drop at text ++ behind
-text_joins text behind bs at b k e h = rw (e, h) refl
+begin_sound : (p : Progress) (c rest : List ℕ) (b : ℕ) → StandsAt (spot p Start c) rest → Sound (step (spot p Start c) b) (rest ++ b ∷ [])
+begin_sound p c rest b s =
+    opens_or p (rest ++ b ∷ []) c b (nat_eq b 43) (Some Simple) _ (λ e. opens p Simple c rest b s (λ a y h. rw (h.0, h.1, is_eq b 43 e) (record { short = lit≤ tt; each = tt }, refl)))
+    (λ n. opens_or p (rest ++ b ∷ []) c b (nat_eq b 58) (Some Integer) _ (λ e. opens p Integer c rest b s (λ a y h. let k = is_eq b 58 e in rw (h.0, h.1, k) (rw k at a, lit≤ tt, tt, refl)))
+    (λ n. opens_or p (rest ++ b ∷ []) c b (nat_eq b 36) (Some (BulkHead 0 0)) _ (λ e. opens p (BulkHead 0 0) c rest b s (λ a y h. let k = is_eq b 36 e in rw (h.0, h.1, k) (rw k at a, refl, [], (refl, lit≤ tt, tt, refl, lit≤ tt), refl)))
+    (λ n. opens_or p (rest ++ b ∷ []) c b (nat_eq b 42) (Some (ArrayHead 0 0)) None (λ e. opens p (ArrayHead 0 0) c rest b s (λ a y h. let k = is_eq b 42 e in rw (h.0, h.1, k) (rw k at a, refl, [], (refl, lit≤ tt, tt, refl, lit≤ tt), refl)))
+    (λ n. either (nat_eq b 10) (refused fault.BadEnd) (refused fault.BadKind) (rest ++ b ∷ []) (λ e. tt) (λ e. tt)))))
 
-text_done : (text bs : List ℕ) (at b : ℕ) → drop at text ≡ b ∷ [] → b ∷ bs ≡ drop at text ++ bs
-text_done text bs at b e = rw e refl
+-- ---- Lines
 
-text_done_as : (text behind bs : List ℕ) (at b : ℕ) → drop at text ≡ b ∷ [] → bs ≡ behind → b ∷ bs ≡ drop at text ++ behind
-text_done_as text behind bs at b e h = rw (e, h) refl
+all_snoc : {X : Type 0} (P : X → Type 0) (xs : List X) (x : X) → AllByRecursion P xs → P x → AllByRecursion P (xs ++ x ∷ [])
+all_snoc P [] x h k = (k, tt)
+all_snoc P (y ∷ ys) x h k = (h.0, all_snoc P ys x h.1 k)
 
--- ---- Names and numbers
+plus_allowed : (p : Progress) → allows p 43 ≡ true
+plus_allowed Name = refl
+plus_allowed (Time name) = refl
+plus_allowed (Value name time) = refl
+plus_allowed (Item name time values left) = refl
+plus_allowed Json = refl
 
-name_back : (name more behind bs : List ℕ) (time : ℕ) (value : ℤ) (b : ℕ) (m : Message) → IsNameByte b → AllByRecursion IsNameByte more → length (name ++ b ∷ []) + length more ≤ 512 →
-    AreNumberLines behind time value → bs ≡ more ++ 13 ∷ 10 ∷ 58 ∷ behind → m ≡ Put ((name ++ b ∷ []) ++ more) time value → Completes (Name name) (b ∷ bs) m
-name_back name more behind bs time value b m good each fits lines e is =
-    let all : length name + suc (length more) ≤ 512 = omega (arith, length-append {A = ℕ}) in
-    (b ∷ more, behind, time, value, (good, each), all, lines, ap (λ xs. b ∷ xs) e, rw append_assoc at is)
+below : (n m : ℕ) → nat_le n m ≡ false → m < n
+below n m e = grind (arith, nat_tests)
 
-number_ends : (digits : List ℕ) (n : ℕ) → DigitsLeft 0 0 digits n → IsNumber digits n
-number_ends digits n d =
-    let some : 1 ≤ 0 + length digits = d.some in
-    let few : 0 + length digits ≤ 18 = d.few in
-    record { some = omega arith; few = omega arith; each = d.each; value = d.is }
+simple_sound : (p : Progress) (c rest : List ℕ) (b : ℕ) → StandsAt (spot p Simple c) rest → Sound (step (spot p Simple c) b) (rest ++ b ∷ [])
+simple_sound p c rest b s =
+    either (nat_eq b 10) (refused fault.BadEnd) _ _ (λ e. tt) (λ lf.
+    either (nat_eq b 13) (going (spot p (PartEnd kind.Simple) c)) _ _
+    (λ e. moves p Simple (PartEnd kind.Simple) c c rest b s (λ y h. (plus_allowed p, (h.0, rw (h.1, is_eq b 13 e) (append_assoc (43 ∷ c) (13 ∷ []) (10 ∷ []))))))
+    (λ cr. either (nat_le 4096 (length c)) (refused fault.LongLine) (going (spot p Simple (c ++ b ∷ []))) _ (λ e. tt)
+    (λ e. moves p Simple Simple c (c ++ b ∷ []) rest b s (λ y h. (
+      record {
+        short = let k : length c < 4096 = below 4096 (length c) e in omega (arith, k, length-append {A = ℕ});
+        each = all_snoc IsLineByte c b h.0.each (record { not_cr = is_ne b 13 cr; not_lf = is_ne b 10 lf });
+      },
+      ap (λ xs. xs ++ b ∷ []) h.1,
+    )))))
 
-first_number : (b n : ℕ) (digits : List ℕ) → IsDigit b → DigitsLeft 1 (b - 48) digits n → IsNumber (b ∷ digits) n
-first_number b n digits digit d =
-    let few : 1 + length digits ≤ 18 = d.few in
-    let some : 1 ≤ suc (length digits) = omega arith in
-    let fewer : suc (length digits) ≤ 18 = omega arith in
-    let first : b - 48 ≡ 0 * 10 + (b - 48) = omega arith in
-    record { some = some; few = fewer; each = (digit, d.each); value = d.is ∙ ap (λ k. number_from k digits) first }
+digit_from : (b : ℕ) → is_digit b ≡ true → IsDigit b
+digit_from b e = record { least = grind (arith, nat_tests); most = grind (arith, nat_tests) }
 
-no_more : (count read : ℕ) → count ≢ 0 → count ≤ 18 → DigitsLeft count read [] read
-no_more count read some few = let more : 1 ≤ count + 0 = omega arith in let fewer : count + 0 ≤ 18 = omega arith in record { some = more; few = fewer; each = tt; is = refl }
+or_either : (a b : Bool) → (a || b) ≡ true → (a ≡ true) ⊎ (b ≡ true)
+or_either true b e = inl refl
+or_either false b e = inr e
 
-one_more : (left : ℕ) (more : List ℕ) → left ≢ 0 → length more ≡ left - 1 → suc (length more) ≡ left
-one_more left more some h = omega arith
+sign_first : (b : ℕ) → (nat_eq b 43 || nat_eq b 45) ≡ true → (b ≡ 43) ⊎ (b ≡ 45)
+sign_first b e = elim (or_either (nat_eq b 43) (nat_eq b 45) e) [ inl d ↦ inl (is_eq b 43 d) | inr k ↦ inr (is_eq b 45 k) ]
 
--- ---- A put
+front_first : (b : ℕ) → goes_on [] b ≡ true → IsDigit b ⊎ ((b ≡ 43) ⊎ (b ≡ 45))
+front_first b e = elim (or_either (is_digit b) (nat_eq b 43 || nat_eq b 45) e) [ inl d ↦ inl (digit_from b d) | inr k ↦ inr (sign_first b k) ]
 
-start_sound : (b : ℕ) → Sound Start b (at_start b)
-start_sound b = either Start b (nat_eq b 43) (Going First) Refused
-    (λ t. (tt, refl, λ bs m h. let P : ℕ → Type 0 = λ x. Spells (x ∷ bs) m in subst P (sym (is_eq b 43 t)) h)) (λ t. tt)
+front_more : (c : List ℕ) (b : ℕ) → IsIntegerFront c → goes_on c b ≡ true → IsIntegerFront (c ++ b ∷ [])
+front_more [] b h e = (front_first b e, tt)
+front_more (x ∷ xs) b h e = (h.0, all_snoc IsDigit xs b h.1 (digit_from b e))
 
-name_spells : (b : ℕ) (more bs behind : List ℕ) (time : ℕ) (value : ℤ) (m : Message) → IsNameByte b → b ≢ 33 → b ≢ 32 → AllByRecursion IsNameByte more → 1 + length more ≤ 512 →
-    AreNumberLines behind time value → bs ≡ more ++ 13 ∷ 10 ∷ 58 ∷ behind → m ≡ Put (b ∷ more) time value → Spells (43 ∷ b ∷ bs) m
-name_spells b more bs behind time value m good control space each fits lines e is =
-    let fewer : suc (length more) ≤ 512 = omega arith in
-    rw (is, e, lines.4, lines.3.2) (lines.0, lines.3.0, (good, control, space, each, fewer), lines.2, lines.3.1, refl)
+no_digit : (b : ℕ) → (b ≡ 43) ⊎ (b ≡ 45) → list_any is_digit (b ∷ []) ≡ true → ⊥
+no_digit b (inl e) h = let k = rw e at h in cc
+no_digit b (inr e) h = let k = rw e at h in cc
 
-query_spells : (b n : ℕ) (digits behind metric bs : List ℕ) (m : Message) → b ≡ 113 → IsLength digits n → IsQueryEnd n behind metric → bs ≡ query_mark ++ (digits ++ behind) → m ≡ Query metric → Spells (43 ∷ 33 ∷ b ∷ bs) m
-query_spells b n digits behind metric bs m byte l q e is =
-    let size : n ≡ length (query_text metric) = omega (arith, q.2, length-append {A = ℕ}) in
-    let text : query_text metric ++ 13 ∷ 10 ∷ [] ≡ codes "{\"select\":\"" ++ (metric ++ 34 ∷ text_end) = ap (λ xs. codes "{\"select\":\"" ++ xs) (append_assoc metric (codes "\"}") (13 ∷ 10 ∷ [])) in
-    rw (is, byte, e, q.3, q.1.1) (digits, q.1.0, rw size at l, rw text refl)
+whole_integer : (c : List ℕ) → IsIntegerFront c → list_any is_digit c ≡ true → IsInteger c
+whole_integer [] h e = cc
+whole_integer (b ∷ bs) (inl d, l) e = inl (d, l)
+whole_integer (b ∷ []) (inr k, l) e = absurd (no_digit b k e)
+whole_integer (b ∷ d ∷ ds) (inr k, l) e = inr (k, (λ q. cc), l)
 
-flush_spells : (b : ℕ) (bs : List ℕ) (m : Message) → b ≡ 102 → bs ≡ flush_mark → m ≡ Flush → Spells (43 ∷ 33 ∷ b ∷ bs) m
-flush_spells b bs m byte e is = rw (is, byte, e) refl
+integer_sound : (p : Progress) (c rest : List ℕ) (b : ℕ) → StandsAt (spot p Integer c) rest → Sound (step (spot p Integer c) b) (rest ++ b ∷ [])
+integer_sound p c rest b s =
+    either (nat_eq b 10) (refused fault.BadEnd) _ _ (λ e. tt) (λ lf.
+    either (nat_eq b 13) (cond (list_any is_digit c) (going (spot p (PartEnd kind.Integer) c)) (refused fault.BadNumber)) _ _
+    (λ e. either (list_any is_digit c) (going (spot p (PartEnd kind.Integer) c)) (refused fault.BadNumber) _
+    (λ any. moves p Integer (PartEnd kind.Integer) c c rest b s (λ y h. (h.0, (h.1, whole_integer c h.2 any, rw (h.3, is_eq b 13 e) (append_assoc (58 ∷ c) (13 ∷ []) (10 ∷ []))))))
+    (λ any. tt))
+    (λ cr. either (nat_le 4096 (length c)) (refused fault.LongLine) _ _ (λ e. tt)
+    (λ e. either (goes_on c b) (going (spot p Integer (c ++ b ∷ []))) (refused fault.BadNumber) _
+    (λ g. moves p Integer Integer c (c ++ b ∷ []) rest b s (λ y h. (
+      h.0,
+      (let k : length c < 4096 = below 4096 (length c) e in omega (arith, k, length-append {A = ℕ})),
+      front_more c b h.2 g,
+      ap (λ xs. xs ++ b ∷ []) h.3,
+    )))
+    (λ g. tt))))
 
-first_sound : (b : ℕ) → Sound First b (at_first b)
-first_sound b = either First b (nat_eq b 33) (Going Control) _
-    (λ t. (tt, refl, λ bs m h. let P : ℕ → Type 0 = λ x. Spells (43 ∷ x ∷ bs) m in subst P (sym (is_eq b 33 t)) h))
-    (λ control. either First b (is_name_byte b && not (nat_eq b 32)) (Going (Name (b ∷ []))) Refused
-    (λ t. let two = and_true (is_name_byte b) (not (nat_eq b 32)) t in
-    let space : b ≢ 32 = grind (arith, nat_tests, two.1) in
-    (lit≤ tt, refl, λ bs m h. name_spells b h.0 bs h.1 h.2 h.3 m (name_byte_from b two.0) (is_ne b 33 control) space h.4 h.5 h.6 h.7 h.8))
-    (λ t. tt))
+-- ---- Lengths
 
-name_sound : (name : List ℕ) (b : ℕ) → length name ≤ 512 → Sound (Name name) b (at_name name b)
-name_sound name b fits = either (Name name) b (nat_eq b 13) (Going (NameEnd name 0)) _
-    (λ t. (lit< tt, refl, λ bs m h. ([], h.0, h.1, h.2, tt, omega arith, h.3, rw (is_eq b 13 t, h.4) refl, rw append-nil h.5)))
-    (λ cr. either (Name name) b (is_name_byte b && nat_lt (length name) 512) (Going (Name (name ++ b ∷ []))) Refused
-    (λ t. let two = and_true (is_name_byte b) (nat_lt (length name) 512) t in
-    let room : length name < 512 = grind (arith, nat_tests, two.1) in
-    (omega (arith, length-append {A = ℕ}), refl, λ bs m h. name_back name h.0 h.1 bs h.2 h.3 b m (name_byte_from b two.0) h.4 h.5 h.6 h.7 h.8))
-    (λ t. tt))
+chosen : {A : Type 0} (P : A → Type 0) (t : Bool) (x y : A) → (t ≡ true → P x) → (t ≡ false → P y) → P (cond t x y)
+chosen P true x y h k = h refl
+chosen P false x y h k = k refl
 
-name_end_sound : (o : TextRead) (name : List ℕ) (at b : ℕ) → TextSound o number_mark at b → Sound (NameEnd name at) b (name_end_as name o)
-name_end_sound Wrong name at b h = tt
-name_end_sound (On k) name at b h = (h.0, refl, λ bs m c. (c.0, c.1, c.2, c.3, text_joins number_mark c.0 bs at b k h.1 c.4, c.5))
-name_end_sound Done name at b h = ((lit≤ tt, lit< tt), refl, λ bs m c. (bs, c.2, c.3, (c.0, c.1, number_ends c.0 c.2 c.4, c.5, c.6), text_done number_mark bs at b h, c.7))
+number_snoc : (n : ℕ) (ds : List ℕ) (b : ℕ) → number_from n (ds ++ b ∷ []) ≡ number_from n ds * 10 + (b - 48)
+number_snoc n [] b = refl
+number_snoc n (d ∷ ds) b = number_snoc (n * 10 + (d - 48)) ds b
 
-time_sound : (name : List ℕ) (count read b : ℕ) → count ≤ 18 → read < 10 ^ count → Sound (Time name count read) b (at_time name count read b)
-time_sound name count read b few below = either (Time name count read) b (nat_eq b 13) _ _
-    (λ t. either (Time name count read) b (nat_eq count 0) Refused (Going (TimeEnd name read 0)) (λ z. tt)
-    (λ z. let some : count ≢ 0 = is_ne count 0 z in
-    (lit< tt, refl, λ bs m h. ([], h.0, read, h.1, no_more count read some few, h.2, rw (is_eq b 13 t, h.3) refl, h.4))))
-    (λ cr. either (Time name count read) b (is_digit b && nat_lt count 18) (Going (Time name (count + 1) (with_digit read b))) Refused
-    (λ t. let two = and_true (is_digit b) (nat_lt count 18) t in
-    let room : count < 18 = grind (arith, nat_tests, two.1) in
-    let digit = digit_from b two.0 in (
-      (omega arith, (digit_exact read count b below room digit).1),
-      refl,
-      λ bs m h. (b ∷ h.0, h.1, h.2, h.3, digits_back count read b h.2 h.0 digit room below h.4, h.5, ap (λ xs. b ∷ xs) h.6, h.7),
+not_not : (b : Bool) → not b ≡ false → b ≡ true
+not_not true e = refl
+not_not false e = sym e
+
+more_digits : (ds : List ℕ) (d v most b : ℕ) → AreDigits ds d v most → nat_le 4096 d ≡ false → not (is_digit b) ≡ false → nat_lt most (v * 10 + (b - 48)) ≡ false →
+    AreDigits (ds ++ b ∷ []) (d + 1) (v * 10 + (b - 48)) most
+more_digits ds d v most b h k g m =
+    let few : d < 4096 = below 4096 d k in
+    let digit : is_digit b ≡ true = not_not (is_digit b) g in
+    let count : length (ds ++ b ∷ []) ≡ d + 1 = length-append ds (b ∷ []) ∙ ap (λ n. n + 1) h.0 in
+    (count, omega (arith, count, few), all_snoc IsDigit ds b h.2 (digit_from b digit), number_snoc 0 ds b ∙ ap (λ n. n * 10 + (b - 48)) h.3, grind (arith, nat_tests, m))
+
+a_number : (ds : List ℕ) (d v most : ℕ) → AreDigits ds d v most → nat_eq d 0 ≡ false → IsNumber ds v
+a_number ds d v most h e = record {
+  some = λ q. let none : d ≡ 0 = sym h.0 ∙ ap length q in is_ne d 0 e none;
+  short = h.1;
+  each = h.2;
+  value = h.3;
+}
+
+bulk_head_sound : (p : Progress) (d v : ℕ) (c rest : List ℕ) (b : ℕ) → StandsAt (spot p (BulkHead d v) c) rest → Sound (step (spot p (BulkHead d v) c) b) (rest ++ b ∷ [])
+bulk_head_sound p d v c rest b s =
+    let P : Result (Option (ℕ × ℕ)) Fault → Type 0 = λ r. Sound (bulk_head_as (spot p (BulkHead d v) c) v r) (rest ++ b ∷ []) in
+    let digit : Result (Option (ℕ × ℕ)) Fault = Ok (Some (d + 1, v * 10 + (b - 48))) in
+    let tail : Result (Option (ℕ × ℕ)) Fault = cond (nat_lt 65536 (v * 10 + (b - 48))) (Err fault.LongBulk) digit in
+    let tails : Result (Option (ℕ × ℕ)) Fault = cond (not (is_digit b)) (Err fault.BadNumber) tail in
+    chosen P (nat_eq b 10) (Err fault.BadEnd) _ (λ e. tt) (λ lf.
+    chosen P (nat_eq b 13) (cond (nat_eq d 0) (Err fault.BadNumber) (Ok None)) _
+    (λ e. chosen P (nat_eq d 0) (Err fault.BadNumber) (Ok None) (λ z. tt)
+    (λ z. moves p (BulkHead d v) (BulkHeadEnd v) c c rest b s (λ y h. (h.0, h.1, h.2, a_number h.2 d v 65536 h.3 z, h.3.4, rw (h.4, is_eq b 13 e) refl))))
+    (λ cr. chosen P (nat_le 4096 d) (Err fault.LongLine) tails (λ e. tt)
+    (λ few. chosen P (not (is_digit b)) (Err fault.BadNumber) tail (λ e. tt)
+    (λ g. chosen P (nat_lt 65536 (v * 10 + (b - 48))) (Err fault.LongBulk) digit (λ e. tt)
+    (λ low. moves p (BulkHead d v) (BulkHead (d + 1) (v * 10 + (b - 48))) c c rest b s
+    (λ y h. (h.0, h.1, h.2 ++ b ∷ [], more_digits h.2 d v 65536 b h.3 few g low, ap (λ xs. xs ++ b ∷ []) h.4)))))))
+
+array_head_sound : (p : Progress) (d v : ℕ) (c rest : List ℕ) (b : ℕ) → StandsAt (spot p (ArrayHead d v) c) rest → Sound (step (spot p (ArrayHead d v) c) b) (rest ++ b ∷ [])
+array_head_sound p d v c rest b s =
+    let P : Result (Option (ℕ × ℕ)) Fault → Type 0 = λ r. Sound (array_head_as (spot p (ArrayHead d v) c) v r) (rest ++ b ∷ []) in
+    let digit : Result (Option (ℕ × ℕ)) Fault = Ok (Some (d + 1, v * 10 + (b - 48))) in
+    let tail : Result (Option (ℕ × ℕ)) Fault = cond (nat_lt 64 (v * 10 + (b - 48))) (Err fault.BadShape) digit in
+    let tails : Result (Option (ℕ × ℕ)) Fault = cond (not (is_digit b)) (Err fault.BadNumber) tail in
+    chosen P (nat_eq b 10) (Err fault.BadEnd) _ (λ e. tt) (λ lf.
+    chosen P (nat_eq b 13) (cond (nat_eq d 0) (Err fault.BadNumber) (Ok None)) _
+    (λ e. chosen P (nat_eq d 0) (Err fault.BadNumber) (Ok None) (λ z. tt)
+    (λ z. moves p (ArrayHead d v) (ArrayHeadEnd v) c c rest b s (λ y h. (h.0, h.1, h.2, a_number h.2 d v 64 h.3 z, h.3.4, rw (h.4, is_eq b 13 e) refl))))
+    (λ cr. chosen P (nat_le 4096 d) (Err fault.LongLine) tails (λ e. tt)
+    (λ few. chosen P (not (is_digit b)) (Err fault.BadNumber) tail (λ e. tt)
+    (λ g. chosen P (nat_lt 64 (v * 10 + (b - 48))) (Err fault.BadShape) digit (λ e. tt)
+    (λ low. moves p (ArrayHead d v) (ArrayHead (d + 1) (v * 10 + (b - 48))) c c rest b s
+    (λ y h. (h.0, h.1, h.2 ++ b ∷ [], more_digits h.2 d v 64 b h.3 few g low, ap (λ xs. xs ++ b ∷ []) h.4)))))))
+
+bulk_head_end_sound : (p : Progress) (v : ℕ) (c rest : List ℕ) (b : ℕ) → StandsAt (spot p (BulkHeadEnd v) c) rest → Sound (step (spot p (BulkHeadEnd v) c) b) (rest ++ b ∷ [])
+bulk_head_end_sound p v c rest b s =
+    either (nat_eq b 10) (going (spot p (Content v) c)) (refused fault.BadEnd) _
+    (λ e. moves p (BulkHeadEnd v) (Content v) c c rest b s (λ y h.
+    let none : 0 + v ≡ v = omega arith in
+    rw (h.1, none, h.5, is_eq b 10 e) (h.0, h.2, h.3, h.4, append_assoc (36 ∷ h.2) (13 ∷ []) (10 ∷ []))))
+    (λ e. tt)
+
+content_sound : (p : Progress) (left : ℕ) (c rest : List ℕ) (b : ℕ) → StandsAt (spot p (Content left) c) rest → Sound (step (spot p (Content left) c) b) (rest ++ b ∷ [])
+content_sound p left c rest b s =
+    either (nat_lt 0 left) (going (spot p (Content (left - 1)) (c ++ b ∷ []))) _ _
+    (λ e. moves p (Content left) (Content (left - 1)) c (c ++ b ∷ []) rest b s (λ y h.
+    let same : length (c ++ b ∷ []) + (left - 1) ≡ length c + left = let some : 0 < left = grind (arith, nat_tests, e) in omega (arith, some, length-append c (b ∷ [])) in
+    rw (same, h.4) (h.0, h.1, h.2, h.3, append_assoc (36 ∷ h.1) (crlf ++ c) (b ∷ []))))
+    (λ z. either (nat_eq b 13) (going (spot p (PartEnd kind.Bulk) c)) (refused fault.BadEnd) _
+    (λ e. moves p (Content left) (PartEnd kind.Bulk) c c rest b s (λ y h.
+    let none : length c + left ≡ length c = let zero : left ≡ 0 = grind (arith, nat_tests, z) in omega (arith, zero) in (
+      h.0,
+      (
+        h.1,
+        rw none at h.2,
+        rw none at h.3,
+        rw (h.4, is_eq b 13 e) (append_assoc (36 ∷ h.1 ++ (crlf ++ c)) (13 ∷ []) (10 ∷ []) ∙ ap (λ xs. xs ++ crlf) (sym (append_assoc (36 ∷ h.1) crlf c))),
+      ),
+    )))
+    (λ e. tt))
+
+-- ---- Whole parts
+
+parts_snoc : (ws : List Written) (w : Written) (x y : List ℕ) → SpellsParts x ws → SpellsPart y w → SpellsParts (x ++ y) (ws ++ w ∷ [])
+parts_snoc [] w x y h k = (y, [], rw (h, append-nil) refl, k, refl)
+parts_snoc (v ∷ vs) w x y h k = (h.0, h.1 ++ y, rw h.2 (append_assoc h.0 h.1 y), h.3, parts_snoc vs w h.1 y h.4 k)
+
+-- what bytes say of the parts so far, one more part behind them
+abbrev Follows : Progress → List Written → Written → List ℕ → Type 0
+Follows p parts w bytes = AreDone p parts × SpellsParts bytes (parts ++ w ∷ [])
+
+between_stands : (p : Progress) (parts : List Written) (bytes : List ℕ) → AreDone p parts → SpellsParts bytes parts → StandsAt (between p) bytes
+between_stands p parts bytes d s = record { before = bytes; begun = []; parts = parts; whole = sym (append-nil bytes); done = d; spelled = s; part = (refl, refl) }
+
+text_of : (k : PartKind) → allows Name (type_byte k) ≡ true → IsText k
+text_of kind.Simple e = tt
+text_of kind.Integer e = cc
+text_of kind.Bulk e = tt
+
+text_of_json : (k : PartKind) → allows Json (type_byte k) ≡ true → IsText k
+text_of_json kind.Simple e = tt
+text_of_json kind.Integer e = cc
+text_of_json kind.Bulk e = tt
+
+item_of : (name time : Part) (values : List Part) (left : ℕ) (k : PartKind) → allows (Item name time values left) (type_byte k) ≡ true → IsItem k
+item_of name time values left kind.Simple e = tt
+item_of name time values left kind.Integer e = tt
+item_of name time values left kind.Bulk e = cc
+
+control_of : (c : List ℕ) → is_control c ≡ true → BeginsControl c
+control_of [] e = cc
+control_of (b ∷ bs) e = is_eq b 33 e
+
+no_control_of : (c : List ℕ) → is_control c ≡ false → ¬ (BeginsControl c)
+no_control_of [] e h = h
+no_control_of (b ∷ bs) e h = is_ne b 33 e h
+
+same_bytes : (xs ys : List ℕ) → bytes_eq xs ys ≡ true → xs ≡ ys
+same_bytes xs ys e = (bytes_decides xs ys).0 e
+
+other_bytes : (xs ys : List ℕ) → bytes_eq xs ys ≡ false → xs ≢ ys
+other_bytes xs ys e q = let h : bytes_eq xs ys ≡ true = (bytes_decides xs ys).1 q in cc
+
+not_true : (b : Bool) → not b ≡ true → b ≡ false
+not_true true e = sym e
+not_true false e = refl
+
+name_sound : (w : Part) (bytes : List ℕ) → IsText w.kind → SpellsParts bytes (one w ∷ []) → Sound (finish Name w) bytes
+name_sound w bytes t s =
+    either (not (is_control w.bytes)) (going (between (Time w))) _ bytes
+    (λ e. between_stands (Time w) (one w ∷ []) bytes ((t, no_control_of w.bytes (not_true (is_control w.bytes) e)), refl) s)
+    (λ e. let begins = control_of w.bytes (not_not (is_control w.bytes) e) in
+    either (bytes_eq w.bytes (codes "!query")) (going (between Json)) _ bytes
+    (λ q. between_stands Json (one w ∷ []) bytes (w, (t, same_bytes w.bytes (codes "!query") q), refl) s)
+    (λ q. either (bytes_eq w.bytes (codes "!flush")) (whole message.Flush) (whole message.Unknown) bytes
+    (λ f. (one w ∷ [], (w, (t, same_bytes w.bytes (codes "!flush") f), refl), s))
+    (λ f. (one w ∷ [], (w, t, begins, other_bytes w.bytes (codes "!query") q, other_bytes w.bytes (codes "!flush") f, refl), s))))
+
+finish_sound : (p : Progress) (w : Part) (parts : List Written) (bytes : List ℕ) → allows p (type_byte w.kind) ≡ true → AreDone p parts → SpellsParts bytes (parts ++ one w ∷ []) →
+    Sound (finish p w) bytes
+finish_sound Name w parts bytes a d s = name_sound w bytes (text_of w.kind a) (rw d at s)
+finish_sound (Time name) w parts bytes a d s = between_stands (Value name w) (one name ∷ one w ∷ []) bytes (d.0, refl) (rw d.1 at s)
+finish_sound (Value name time) w parts bytes a d s = (one name ∷ one time ∷ one w ∷ [], (d.0, inl (w, refl, refl)), rw d.1 at s)
+finish_sound Json w parts bytes a d s = (one d.0 ∷ one w ∷ [], (d.0, d.1, text_of_json w.kind a, refl), rw d.2 at s)
+finish_sound (Item name time values left) w parts bytes a d s =
+    let one_more : map one (values ++ w ∷ []) ≡ map one values ++ one w ∷ [] = map-append one values (w ∷ []) in
+    let items_are : AllByRecursion (λ v. IsItem v.kind) (values ++ w ∷ []) = all_snoc (λ v. IsItem v.kind) values w d.3 (item_of name time values left w.kind a) in
+    let count : length (values ++ w ∷ []) ≡ length values + 1 = length-append values (w ∷ []) in
+    let spelled : SpellsParts bytes (one name ∷ one time ∷ array (length values + left) ∷ map one (values ++ w ∷ [])) = rw one_more (rw d.4 at s) in
+    either (nat_le left 1) (whole (message.Put name time (values ++ w ∷ []))) (going (between (Item name time (values ++ w ∷ []) (left - 1)))) bytes
+    (λ e. let last : left ≤ 1 = grind (arith, nat_tests, e) in
+    let all : length values + left ≡ length (values ++ w ∷ []) = omega (arith, count, last, d.1) in (
+      one name ∷ one time ∷ array (length (values ++ w ∷ [])) ∷ map one (values ++ w ∷ []),
+      (d.0, inr (omega (arith, all, d.2), items_are, refl)),
+      rw all at spelled,
     ))
-    (λ t. tt))
+    (λ e. let more : 1 < left = grind (arith, nat_tests, e) in
+    let all : length values + left ≡ length (values ++ w ∷ []) + (left - 1) = omega (arith, count, more) in
+    between_stands (Item name time (values ++ w ∷ []) (left - 1)) (one name ∷ one time ∷ array (length (values ++ w ∷ []) + (left - 1)) ∷ map one (values ++ w ∷ [])) bytes
+    (d.0, omega (arith, more), omega (arith, all, d.2), items_are, refl) (rw all at spelled))
 
-time_end_sound : (o : TextRead) (name : List ℕ) (time at b : ℕ) → TextSound o number_mark at b → Sound (TimeEnd name time at) b (time_end_as name time o)
-time_end_sound Wrong name time at b h = tt
-time_end_sound (On k) name time at b h = (h.0, refl, λ bs m c. (c.0, c.1, c.2, text_joins number_mark c.0 bs at b k h.1 c.3, c.4))
-time_end_sound Done name time at b h = (tt, refl, λ bs m c. (bs, c.0, c.1, text_done number_mark bs at b h, c.2))
+part_end_sound : (p : Progress) (k : PartKind) (c rest : List ℕ) (b : ℕ) → StandsAt (spot p (PartEnd k) c) rest → Sound (step (spot p (PartEnd k) c) b) (rest ++ b ∷ [])
+part_end_sound p k c rest b s =
+    either (nat_eq b 10) (finish p (record { kind = k; bytes = c })) (refused fault.BadEnd) _
+    (λ e. let at_end : rest ++ b ∷ [] ≡ s.before ++ (s.begun ++ 10 ∷ []) = rw (s.whole, is_eq b 10 e) (append_assoc s.before s.begun (10 ∷ [])) in
+    rw at_end (finish_sound p (record { kind = k; bytes = c }) s.parts _ s.part.0 s.done (parts_snoc s.parts (one (record { kind = k; bytes = c })) s.before (s.begun ++ 10 ∷ []) s.spelled s.part.1)))
+    (λ e. tt)
 
-value_first_sound : (name : List ℕ) (time b : ℕ) → Sound (ValueFirst name time) b (at_value_first name time b)
-value_first_sound name time b = either (ValueFirst name time) b (nat_eq b 45) (Going (Value name time true 0 0)) _
-    (λ t. ((lit≤ tt, lit< tt), refl, λ bs m h. (pos 0 -ℤ pos h.1, (45 ∷ h.0, (h.0, h.1, number_ends h.0 h.1 h.2, inr (refl, refl)), rw (is_eq b 45 t, h.3) refl), h.4)))
-    (λ minus. either (ValueFirst name time) b (is_digit b) (Going (Value name time false 1 (b - 48))) Refused
-    (λ t. let digit = digit_from b t in
-    let most : b ≤ 57 = digit.most in
-    let below : b - 48 < 10 ^ 1 = omega arith in
-    ((lit≤ tt, below), refl, λ bs m h. (pos h.1, (b ∷ h.0, (b ∷ h.0, h.1, first_number b h.1 h.0 digit h.2, inl (refl, refl)), ap (λ xs. b ∷ xs) h.3), h.4)))
-    (λ t. tt))
+items_sound : (p : Progress) (v : ℕ) (parts : List Written) (bytes : List ℕ) → v ≤ 64 → AreDone p parts → SpellsParts bytes (parts ++ array v ∷ []) → Sound (items p v) bytes
+items_sound Name v parts bytes h d s = tt
+items_sound (Time name) v parts bytes h d s = tt
+items_sound (Item name time values left) v parts bytes h d s = tt
+items_sound Json v parts bytes h d s = tt
+items_sound (Value name time) v parts bytes h d s =
+    let spelled : SpellsParts bytes (one name ∷ one time ∷ array v ∷ []) = rw d.1 at s in
+    either (nat_eq v 0) (whole (message.Put name time [])) (going (between (Item name time [] v))) bytes
+    (λ e. (one name ∷ one time ∷ array 0 ∷ [], (d.0, inr (lit≤ tt, tt, refl)), rw (is_eq v 0 e) at spelled))
+    (λ e. let some : 0 < v = let ne : v ≢ 0 = is_ne v 0 e in omega arith in
+    let all : v ≡ 0 + v = omega arith in
+    between_stands (Item name time [] v) (one name ∷ one time ∷ array (0 + v) ∷ []) bytes (d.0, some, omega (arith, h), tt, refl) (rw all at spelled))
 
-value_sound : (name : List ℕ) (time : ℕ) (negative : Bool) (count read b : ℕ) → count ≤ 18 → read < 10 ^ count → Sound (Value name time negative count read) b (at_value name time negative count read b)
-value_sound name time negative count read b few below = either (Value name time negative count read) b (nat_eq b 13) _ _
-    (λ t. either (Value name time negative count read) b (nat_eq count 0) Refused (Going (ValueEnd name time (value_of negative read))) (λ z. tt)
-    (λ z. let some : count ≢ 0 = is_ne count 0 z in
-    (tt, refl, λ bs m h. ([], read, no_more count read some few, rw (is_eq b 13 t, h.0) refl, rw (value_exact negative read count below few) at h.1))))
-    (λ cr. either (Value name time negative count read) b (is_digit b && nat_lt count 18) (Going (Value name time negative (count + 1) (with_digit read b))) Refused
-    (λ t. let two = and_true (is_digit b) (nat_lt count 18) t in
-    let room : count < 18 = grind (arith, nat_tests, two.1) in
-    let digit = digit_from b two.0 in (
-      (omega arith, (digit_exact read count b below room digit).1),
-      refl,
-      λ bs m h. (b ∷ h.0, h.1, digits_back count read b h.1 h.0 digit room below h.2, ap (λ xs. b ∷ xs) h.3, h.4),
-    ))
-    (λ t. tt))
+array_head_end_sound : (p : Progress) (v : ℕ) (c rest : List ℕ) (b : ℕ) → StandsAt (spot p (ArrayHeadEnd v) c) rest → Sound (step (spot p (ArrayHeadEnd v) c) b) (rest ++ b ∷ [])
+array_head_end_sound p v c rest b s =
+    let h = s.part in
+    either (nat_eq b 10) (items p v) (refused fault.BadEnd) _
+    (λ e. let at_end : rest ++ b ∷ [] ≡ s.before ++ (s.begun ++ 10 ∷ []) = rw (s.whole, is_eq b 10 e) (append_assoc s.before s.begun (10 ∷ [])) in
+    let head_is : SpellsPart (s.begun ++ 10 ∷ []) (array v) = (h.2, h.3, h.4, rw h.5 (append_assoc (42 ∷ h.2) (13 ∷ []) (10 ∷ []))) in
+    rw at_end (items_sound p v s.parts _ h.4 s.done (parts_snoc s.parts (array v) s.before (s.begun ++ 10 ∷ []) s.spelled head_is)))
+    (λ e. tt)
 
-value_end_sound : (name : List ℕ) (time : ℕ) (value : ℤ) (b : ℕ) → Sound (ValueEnd name time value) b (at_value_end name time value b)
-value_end_sound name time value b = either (ValueEnd name time value) b (nat_eq b 10) (Whole (Put name time value)) Refused
-    (λ t. (rw (is_eq b 10 t) refl, refl)) (λ t. tt)
+step_sound_in : (w : Within) (p : Progress) (c rest : List ℕ) (b : ℕ) → StandsAt (spot p w c) rest → Sound (step (spot p w c) b) (rest ++ b ∷ [])
+step_sound_in Start p c rest b s = begin_sound p c rest b s
+step_sound_in Simple p c rest b s = simple_sound p c rest b s
+step_sound_in Integer p c rest b s = integer_sound p c rest b s
+step_sound_in (BulkHead d v) p c rest b s = bulk_head_sound p d v c rest b s
+step_sound_in (ArrayHead d v) p c rest b s = array_head_sound p d v c rest b s
+step_sound_in (BulkHeadEnd v) p c rest b s = bulk_head_end_sound p v c rest b s
+step_sound_in (ArrayHeadEnd v) p c rest b s = array_head_end_sound p v c rest b s
+step_sound_in (Content left) p c rest b s = content_sound p left c rest b s
+step_sound_in (PartEnd k) p c rest b s = part_end_sound p k c rest b s
 
--- ---- Behind `+!`
+-- A byte leads to a spot that the bytes with it stand for, or ends a message that they spell.
+pub step_sound : (s : Spot) (rest : List ℕ) (b : ℕ) → StandsAt s rest → Sound (step s b) (rest ++ b ∷ [])
+step_sound s rest b h = step_sound_in s.within s.progress s.bytes rest b h
 
-control_sound : (b : ℕ) → Sound Control b (at_control b)
-control_sound b = either Control b (nat_eq b 113) (Going (QueryFront 0)) _
-    (λ t. (lit< tt, refl, λ bs m h. query_spells b h.3 h.0 h.1 h.2 bs m (is_eq b 113 t) h.4 h.5 h.6 h.7))
-    (λ q. either Control b (nat_eq b 102) (Going (FlushEnd 0)) Refused
-    (λ t. (lit< tt, refl, λ bs m h. flush_spells b bs m (is_eq b 102 t) h.0 h.1)) (λ t. tt))
-
-flush_end_sound : (o : TextRead) (at b : ℕ) → TextSound o flush_mark at b → Sound (FlushEnd at) b (flush_end_as o)
-flush_end_sound Wrong at b h = tt
-flush_end_sound (On k) at b h = (h.0, refl, λ bs m c. (rw (h.1, c.0) refl, c.1))
-flush_end_sound Done at b h = (sym h, refl)
-
--- ---- A query
-
-query_front_sound : (o : TextRead) (at b : ℕ) → TextSound o query_mark at b → Sound (QueryFront at) b (query_front_as o)
-query_front_sound Wrong at b h = tt
-query_front_sound (On k) at b h = (h.0, refl, λ bs m c. (c.0, c.1, c.2, c.3, c.4, c.5, text_joins query_mark (c.0 ++ c.1) bs at b k h.1 c.6, c.7))
-query_front_sound Done at b h = (tt, refl, λ bs m c. (c.0, c.1, c.2, c.3, c.4, c.5, text_done_as query_mark (c.0 ++ c.1) bs at b h c.6, c.7))
-
-length_first_sound : (b : ℕ) → Sound LengthFirst b (at_length_first b)
-length_first_sound b = either LengthFirst b (is_digit b && not (nat_eq b 48)) (Going (Length (b - 48))) Refused
-    (λ t. let two = and_true (is_digit b) (not (nat_eq b 48)) t in
-    let digit = digit_from b two.0 in
-    let least : 48 ≤ b = digit.least in
-    let most : b ≤ 57 = digit.most in
-    let some : b ≢ 48 = grind (arith, nat_tests, two.1) in
-    let first : b - 48 ≡ 0 * 10 + (b - 48) = omega arith in
-    ((omega arith, omega arith), refl, λ bs m h. (b ∷ h.0, h.1, h.2, number_from (b - 48) h.0, (some, digit, h.3, ap (λ n. number_from n h.0) first), h.4, ap (λ xs. b ∷ xs) h.5, h.6)))
-    (λ t. tt)
-
-length_sound : (read b : ℕ) → 1 ≤ read → read ≤ 525 → Sound (Length read) b (at_length read b)
-length_sound read b least most = either (Length read) b (nat_eq b 13) _ _
-    (λ t. either (Length read) b (nat_lt read 14) Refused (Going (Open read 0)) (λ z. tt)
-    (λ z. ((grind (arith, nat_tests), most, lit< tt), refl, λ bs m h. ([], 13 ∷ bs, h.1, tt, (h.0, h.2, h.3, ap (λ xs. 13 ∷ xs) h.4), rw (is_eq b 13 t) refl, h.5))))
-    (λ cr. either (Length read) b (is_digit b) _ Refused
-    (λ t. either (Length read) b (nat_lt 525 (read * 10 + (b - 48))) Refused (Going (Length (read * 10 + (b - 48)))) (λ z. tt)
-    (λ z. let small : read * 10 + (b - 48) ≤ 525 = grind (arith, nat_tests) in
-    ((omega arith, small), refl, λ bs m h. (b ∷ h.0, h.1, h.2, (digit_from b t, h.3), h.4, ap (λ xs. b ∷ xs) h.5, h.6))))
-    (λ t. tt))
-
-open_sound : (o : TextRead) (n at b : ℕ) → 14 ≤ n → n ≤ 525 → TextSound o text_front at b → Sound (Open n at) b (open_as n o)
-open_sound Wrong n at b least most h = tt
-open_sound (On k) n at b least most h = ((least, most, h.0), refl, λ bs m c. (c.0, c.1, c.2, c.3, text_joins text_front c.0 bs at b k h.1 c.4, c.5))
-open_sound Done n at b least most h = (
-  tt,
-  refl,
-  λ bs m c.
-      let size : length c.0 ≡ n - 13 = c.2 in
-      (bs, c.0, (record { some = omega arith; short = omega arith; each = c.1 }, c.3), omega arith, text_done text_front bs at b h, c.4),
-)
-
-metric_sound : (metric : List ℕ) (left b : ℕ) → Sound (Metric metric left) b (at_metric metric left b)
-metric_sound metric left b = either (Metric metric left) b (nat_eq left 0) _ _
-    (λ z. either (Metric metric left) b (nat_eq b 34) (Going (Close metric 0)) Refused
-    (λ t. (lit< tt, refl, λ bs m h. ([], tt, sym (is_eq left 0 z), rw (is_eq b 34 t, h.0) refl, rw append-nil h.1))) (λ t. tt))
-    (λ z. either (Metric metric left) b (is_metric_byte b) (Going (Metric (metric ++ b ∷ []) (left - 1))) Refused
-    (λ t. let some : left ≢ 0 = is_ne left 0 z in
-    (tt, refl, λ bs m h. (b ∷ h.0, (metric_byte_from b t, h.1), one_more left h.0 some h.2, ap (λ xs. b ∷ xs) h.3, rw append_assoc at h.4)))
-    (λ t. tt))
-
-close_sound : (o : TextRead) (metric : List ℕ) (at b : ℕ) → TextSound o text_end at b → Sound (Close metric at) b (close_as metric o)
-close_sound Wrong metric at b h = tt
-close_sound (On k) metric at b h = (h.0, refl, λ bs m c. (rw (h.1, c.0) refl, c.1))
-close_sound Done metric at b h = (sym h, refl)
-
--- ---- Each spot
-
-pub sound : (s : Spot) (b : ℕ) → IsValid s → Sound s b (step s b)
-sound Start b v = start_sound b
-sound First b v = first_sound b
-sound (Name name) b v = name_sound name b v
-sound (NameEnd name at) b v = name_end_sound (read_text number_mark at b) name at b (text_sound number_mark at b v)
-sound (Time name count read) b v = time_sound name count read b v.0 v.1
-sound (TimeEnd name time at) b v = time_end_sound (read_text number_mark at b) name time at b (text_sound number_mark at b v)
-sound (ValueFirst name time) b v = value_first_sound name time b
-sound (Value name time negative count read) b v = value_sound name time negative count read b v.0 v.1
-sound (ValueEnd name time value) b v = value_end_sound name time value b
-sound Control b v = control_sound b
-sound (QueryFront at) b v = query_front_sound (read_text query_mark at b) at b (text_sound query_mark at b v)
-sound (FlushEnd at) b v = flush_end_sound (read_text flush_mark at b) at b (text_sound flush_mark at b v)
-sound LengthFirst b v = length_first_sound b
-sound (Length read) b v = length_sound read b v.0 v.1
-sound (Open n at) b v = open_sound (read_text text_front at b) n at b v.0 v.1 (text_sound text_front at b v.2)
-sound (Metric metric left) b v = metric_sound metric left b
-sound (Close metric at) b v = close_sound (read_text text_end at b) metric at b (text_sound text_end at b v)
+pub first_stands : StandsAt first []
+first_stands = between_stands Name [] [] refl refl

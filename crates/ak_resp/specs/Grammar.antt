@@ -1,22 +1,26 @@
 -- Which bytes spell a message, and where a stream of messages has a fault.
-use Rattle.std.specs.Prelude.{ℕ, ◌≡◌, ◌≢◌, ◌+◌, ◌*◌, ◌-◌, ◌<◌, ◌≤◌, ◌++◌, ◌⊎◌, ℤ, pos, ◌-ℤ◌, List, [], ◌∷◌, length, take, codes}
+use Rattle.std.specs.Prelude.{ℕ, ◌≡◌, ◌≢◌, ◌+◌, ◌*◌, ◌-◌, ◌<◌, ◌≤◌, ◌++◌, ◌⊎◌, List, [], ◌∷◌, map, length, take, codes}
 use Rattle.std.specs.List.{AllByRecursion}
+use Rattle.ak_resp.specs.declared.message.PartKind.{PartKind}
+use Rattle.ak_resp.specs.declared.message.PartKind.TheVariants as kind
+use Rattle.ak_resp.specs.declared.message.Part.{Part}
 use Rattle.ak_resp.specs.declared.message.Message.{Message}
-use Rattle.ak_resp.specs.declared.message.Message.TheVariants.{Put, Query, Flush}
+use Rattle.ak_resp.specs.declared.message.Message.TheVariants as message
 
--- ---- Names, numbers and metrics
+-- ---- Parts
 
--- from space to tilde, neither a comma nor a quote
-pub record IsNameByte (b : ℕ) : Type 0 where
-  pub least : 32 ≤ b
-  pub most : b ≤ 126
-  pub no_comma : b ≢ 44
-  pub no_quote : b ≢ 34
+abbrev pub crlf : List ℕ
+crlf = 13 ∷ 10 ∷ []
 
--- 1 to 512 such bytes, the first neither `!` nor a space
-abbrev pub IsName : List ℕ → Type 0
-IsName [] = ⊥
-IsName (b ∷ bs) = IsNameByte b × (b ≢ 33) × (b ≢ 32) × AllByRecursion IsNameByte bs × (length (b ∷ bs) ≤ 512)
+-- neither CR nor LF
+pub record IsLineByte (b : ℕ) : Type 0 where
+  pub not_cr : b ≢ 13
+  pub not_lf : b ≢ 10
+
+-- content of a line
+pub record IsLine (bytes : List ℕ) : Type 0 where
+  pub short : length bytes ≤ 4096
+  pub each : AllByRecursion IsLineByte bytes
 
 pub record IsDigit (b : ℕ) : Type 0 where
   pub least : 48 ≤ b
@@ -27,56 +31,83 @@ abbrev pub number_from : ℕ → List ℕ → ℕ
 number_from n [] = n
 number_from n (d ∷ ds) = number_from (n * 10 + (d - 48)) ds
 
--- 1 to 18 digits, of this value
+-- one digit or more, in one line, with this value
 pub record IsNumber (digits : List ℕ) (n : ℕ) : Type 0 where
-  pub some : 1 ≤ length digits
-  pub few : length digits ≤ 18
+  pub some : digits ≢ []
+  pub short : length digits ≤ 4096
   pub each : AllByRecursion IsDigit digits
-  pub value : n ≡ number_from 0 digits
+  pub value : number_from 0 digits ≡ n
 
--- a number, or `-` and a number
-abbrev pub IsValue : List ℕ → ℤ → Type 0
-IsValue text value = (digits : List ℕ) × (n : ℕ) × IsNumber digits n
-    × (((text ≡ digits) × (value ≡ pos n)) ⊎ ((text ≡ 45 ∷ digits) × (value ≡ (pos 0 -ℤ pos n))))
+-- an optional sign, and one digit or more
+abbrev pub IsInteger : List ℕ → Type 0
+IsInteger [] = ⊥
+IsInteger (b ∷ bs) = (IsDigit b × AllByRecursion IsDigit bs) ⊎ (((b ≡ 43) ⊎ (b ≡ 45)) × (bs ≢ []) × AllByRecursion IsDigit bs)
 
--- digits without leading zeros, of this value, which isn't 0
-abbrev pub IsLength : List ℕ → ℕ → Type 0
-IsLength [] n = ⊥
-IsLength (d ∷ ds) n = (d ≢ 48) × IsDigit d × AllByRecursion IsDigit ds × (n ≡ number_from 0 (d ∷ ds))
+-- a part as it is written: one with content, or the head of an array
+pub data Written : Type 0 where
+  one : Part → Written
+  array : ℕ → Written
 
--- a letter, a digit, a point, a low line or a hyphen
-abbrev pub IsMetricByte : ℕ → Type 0
-IsMetricByte b = ((65 ≤ b) × (b ≤ 90)) ⊎ (((97 ≤ b) × (b ≤ 122)) ⊎ (IsDigit b ⊎ ((b ≡ 46) ⊎ ((b ≡ 95) ⊎ (b ≡ 45)))))
+abbrev pub SpellsKind : PartKind → List ℕ → List ℕ → Type 0
+SpellsKind kind.Simple content bytes = IsLine content × (bytes ≡ 43 ∷ content ++ crlf)
+SpellsKind kind.Integer content bytes = (length content ≤ 4096) × IsInteger content × (bytes ≡ 58 ∷ content ++ crlf)
+SpellsKind kind.Bulk content bytes = (digits : List ℕ) × IsNumber digits (length content) × (length content ≤ 65536)
+    × (bytes ≡ 36 ∷ digits ++ crlf ++ content ++ crlf)
 
-pub record IsMetric (metric : List ℕ) : Type 0 where
-  pub some : 1 ≤ length metric
-  pub short : length metric ≤ 512
-  pub each : AllByRecursion IsMetricByte metric
+-- These bytes spell the part.
+abbrev pub SpellsPart : List ℕ → Written → Type 0
+SpellsPart bytes (one p) = SpellsKind p.kind p.bytes bytes
+SpellsPart bytes (array n) = (digits : List ℕ) × IsNumber digits n × (n ≤ 64) × (bytes ≡ 42 ∷ digits ++ crlf)
+
+abbrev pub SpellsParts : List ℕ → List Written → Type 0
+SpellsParts bytes [] = bytes ≡ []
+SpellsParts bytes (w ∷ ws) = (x y : List ℕ) × (bytes ≡ x ++ y) × SpellsPart x w × SpellsParts y ws
 
 -- ---- Messages
 
--- a line: its first byte, its content, CR and LF, and what comes behind it
-abbrev pub line : ℕ → List ℕ → List ℕ → List ℕ
-line mark content behind = mark ∷ (content ++ (13 ∷ 10 ∷ behind))
+-- simple or bulk
+abbrev pub IsText : PartKind → Type 0
+IsText kind.Simple = Unit {0}
+IsText kind.Integer = ⊥
+IsText kind.Bulk = Unit {0}
 
--- the text of a query
-abbrev pub query_text : List ℕ → List ℕ
-query_text metric = codes "{\"select\":\"" ++ (metric ++ codes "\"}")
+-- simple or integer
+abbrev pub IsItem : PartKind → Type 0
+IsItem kind.Simple = Unit {0}
+IsItem kind.Integer = Unit {0}
+IsItem kind.Bulk = ⊥
+
+abbrev pub BeginsControl : List ℕ → Type 0
+BeginsControl [] = ⊥
+BeginsControl (b ∷ bs) = b ≡ 33
+
+-- the name of a series: no control
+abbrev pub IsName : Part → Type 0
+IsName p = IsText p.kind × ¬ (BeginsControl p.bytes)
+
+abbrev pub IsControl : Part → List ℕ → Type 0
+IsControl p name = IsText p.kind × (p.bytes ≡ name)
+
+-- These parts are the message.
+abbrev pub IsMessage : List Written → Message → Type 0
+IsMessage parts (message.Put name time values) = IsName name
+    × (((value : Part) × (values ≡ value ∷ []) × (parts ≡ one name ∷ one time ∷ one value ∷ []))
+    ⊎ ((length values ≤ 64) × AllByRecursion (λ v. IsItem v.kind) values × (parts ≡ one name ∷ one time ∷ array (length values) ∷ map one values)))
+IsMessage parts (message.Query json) = (name : Part) × IsControl name (codes "!query") × IsText json.kind × (parts ≡ one name ∷ one json ∷ [])
+IsMessage parts message.Flush = (name : Part) × IsControl name (codes "!flush") × (parts ≡ one name ∷ [])
+IsMessage parts message.Unknown = (name : Part) × IsText name.kind × BeginsControl name.bytes
+    × (name.bytes ≢ codes "!query") × (name.bytes ≢ codes "!flush") × (parts ≡ one name ∷ [])
 
 -- These bytes spell the message.
 abbrev pub Spells : List ℕ → Message → Type 0
-Spells bytes (Put name time value) = (digits : List ℕ) × (text : List ℕ) × IsName name × IsNumber digits time × IsValue text value
-    × (bytes ≡ line 43 name (line 58 digits (line 58 text [])))
-Spells bytes (Query metric) = (digits : List ℕ) × IsMetric metric × IsLength digits (length (query_text metric))
-    × (bytes ≡ line 43 (codes "!query") (line 36 digits (query_text metric ++ (13 ∷ 10 ∷ []))))
-Spells bytes Flush = bytes ≡ line 43 (codes "!flush") []
+Spells bytes m = (parts : List Written) × IsMessage parts m × SpellsParts bytes parts
 
 -- ---- Streams
 
 -- a row of spellings
 abbrev pub SpellsRow : List ℕ → List Message → Type 0
 SpellsRow bytes [] = bytes ≡ []
-SpellsRow bytes (m ∷ ms) = (x : List ℕ) × (y : List ℕ) × (bytes ≡ x ++ y) × Spells x m × SpellsRow y ms
+SpellsRow bytes (m ∷ ms) = (x y : List ℕ) × (bytes ≡ x ++ y) × Spells x m × SpellsRow y ms
 
 -- Some row of spellings begins with these bytes.
 abbrev pub IsOpen : List ℕ → Type 0

@@ -1,3 +1,5 @@
 pub mod Grammar
+pub mod Kinds
 pub mod Machine
+pub mod Rows
 pub mod Standing

@@ -1,11 +1,12 @@
-//! The reader of a session's messages.
+//! The reader of a session's messages, over the whole grammar of the protocol.
 #![tactic(auto)]
 
+mod fault;
 mod message;
 mod resp;
 mod spot;
 
-pub use message::{Message, RespError};
+pub use message::{Message, Part, PartKind, Parts, RespError};
 pub use resp::{Resp, every_reading, fault_stays, one_reading, one_spelling};
 
 #[cfg(test)]

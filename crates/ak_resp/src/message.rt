@@ -1,16 +1,43 @@
 //! What a session says.
-use ak_base::{Bytes, Refusal};
+use ak_base::{Bytes, Refusal, Sequence};
 use std::alloc::AllocError;
+
+/// How a part is written.
+#[derive(Clone, Copy, Debug, PartialEq, Eq, Drop)]
+pub enum PartKind {
+    /// `+` and a line.
+    Simple,
+    /// `:` and a number, which may have a sign.
+    Integer,
+    /// `$`, a length, and so many bytes of any kind.
+    Bulk,
+}
+
+/// A part of a message: how it is written, and its content as it is written, an integer's sign and digits too.
+#[derive(Drop)]
+pub struct Part {
+    pub kind: PartKind,
+    pub bytes: Bytes,
+}
+
+/// A list of parts.
+pub type Parts = Sequence<Part>;
 
 /// A message of a session.
 #[derive(Drop)]
 pub enum Message {
-    /// A point of the series of this name: nanoseconds since 1970, and units.
-    Put { name: Bytes, time: u64, value: i64 },
-    /// The points of each series of this metric.
-    Query { metric: Bytes },
-    /// Save all points.
+    /// Points of one time: one value, or those of an array, at most 64.
+    Put {
+        name: Part,
+        time: Part,
+        values: Parts,
+    },
+    /// A query, which is JSON or not.
+    Query(Part),
+    /// All points are to be written out.
     Flush,
+    /// A control of another name.
+    Unknown,
 }
 
 /// Why no message was read.

@@ -1,19 +1,23 @@
 //! The reader.
-ghost use Rattle.std.specs.Prelude.{◌≡◌, ◌≢◌, ◌+◌, ◌++◌, ◌∷◌, ◌≤◌, ◌<◌, ◌↔◌, [], List, ℕ, true, false, length, take, IsTrue, IfOk, Err};
+ghost use Rattle.std.specs.Prelude.{◌≡◌, ◌≢◌, ◌+◌, ◌++◌, ◌∷◌, ◌≤◌, ◌<◌, ◌↔◌, [], List, ℕ, true, false, length, take, drop, IsTrue, IfOk, OnOk, Some, None, Err};
 ghost use Rattle.ak_resp.specs.Grammar.{Spells, Splits, HasFaultAt};
-ghost use Rattle.ak_resp.specs.Standing.{Continues, Starts, StandsFor, StandsAfter, TellsFault, OnNone, OnMessage, OnFault, Takes, is_faulted};
+ghost use Rattle.ak_resp.specs.Standing.{HasRefusal, StandsFor, StandsAfter, TellsFault, OnNone, OnMessage, OnFault, Starts, Continues, refusal_of, is_faulted};
+ghost use Rattle.ak_resp.specs.Machine.{extended, IsRun};
+ghost use Rattle.ak_resp.specs.Rows.{next_reader, said_by, after, said, FeedsOn, Answers};
 
 use crate::message::{Message, RespError};
-use crate::spot::{Outcome, Spot};
+use crate::spot::{Spot, SpotError};
 use ak_base::Refusal;
 use std::alloc::{AllocError, Global};
-use std::mem;
 
 /// A reader of a session's stream, which comes in pieces. It keeps nothing of the stream but the message in hand.
 #[derive(Drop)]
 pub struct Resp {
     spot: Spot,
-    faulted: bool,
+    /// How many bytes are read, at most 2^64 - 1.
+    place: u64,
+    /// What the stream is refused by, if it has a fault.
+    refusal: Option<Refusal>,
 }
 
 impl Resp {
@@ -22,30 +26,93 @@ impl Resp {
         ensures stands { IfOk result (λ r. StandsFor r [] []) }
         ensures sound { IfOk result (λ r. is_faulted r ≡ false) }
     {
-        let _ = alloc;
         Ok(Resp {
-            spot: Spot::Start,
-            faulted: false,
+            spot: Spot::new(alloc),
+            place: 0,
+            refusal: None,
         })
     }
 
     /// Reads a byte.
     fn take_byte(&mut self, alloc: Global, byte: u8) -> Result<Option<Message>, RespError>
-        requires { is_faulted self.old ≡ false }
-        ensures { Takes self.old byte self.new result }
+        requires { refusal_of self.old ≡ None }
+        ensures { Answers (said_by self.old byte) (next_reader self.old byte) result self.new }
     {
-        let spot = mem::replace(&mut self.spot, Spot::Start);
-        match spot.step(alloc, byte)? {
-            Outcome::Going(spot) => {
-                self.spot = spot;
-                Ok(None)
+        match self.spot.step(alloc, byte) {
+            Ok(message) => {
+                self.place = self.place.saturating_add(1);
+                Ok(message)
             }
-            Outcome::Whole(message) => Ok(Some(message)),
-            Outcome::Refused => {
-                self.faulted = true;
-                Err(RespError::Refused(Refusal::NotBuilt))
+            Err(SpotError::Refused(fault)) => {
+                let refusal = fault.told(self.place);
+                self.refusal = Some(refusal);
+                Err(RespError::Refused(refusal))
+            }
+            Err(SpotError::Memory) => Err(RespError::Memory),
+        }
+    }
+
+    /// Takes content, more than one byte at a time.
+    fn take_run(&mut self, alloc: Global, bytes: &[u8]) -> Result<(), AllocError>
+        requires sound { refusal_of self.old ≡ None }
+        requires run { IsRun self.old.spot bytes.now }
+        ensures { OnOk result ((self.new ≡ after self.old bytes.now) × (said self.old bytes.now ≡ []) × (refusal_of self.new ≡ None)) }
+    {
+        let place = self.place;
+        self.spot.extend(alloc, bytes)?;
+        self.place = place.saturating_add(bytes.len() as u64);
+        Ok(())
+    }
+
+    /// Reads a run of content, or a byte.
+    fn advance(
+        &mut self,
+        alloc: Global,
+        piece: &[u8],
+        at: &mut usize,
+    ) -> Result<Option<Message>, RespError>
+        requires sound { refusal_of self.old ≡ None }
+        requires within { at.old < length piece.now }
+        ensures least { at.old ≤ at.new }
+        ensures moves { OnOk result (at.old < at.new) }
+        ensures within { at.new ≤ length piece.now }
+        ensures reads { FeedsOn self.old self.new (drop at.old piece.now) (drop at.new piece.now) result }
+    {
+        let rest = &piece[*at..];
+        let run = self.spot.run_length(rest);
+        if run > 0 {
+            self.take_run(alloc, &rest[..run])?;
+            *at += run;
+            Ok(None)
+        } else {
+            let byte = piece[*at];
+            *at += 1;
+            self.take_byte(alloc, byte)
+        }
+    }
+
+    /// Reads to the end of a message or of the piece.
+    fn next(
+        &mut self,
+        alloc: Global,
+        piece: &[u8],
+        at: &mut usize,
+    ) -> Result<Option<Message>, RespError>
+        requires sound { refusal_of self.old ≡ None }
+        requires within { at.old ≤ length piece.now }
+        ensures within { (at.old ≤ at.new) × (at.new ≤ length piece.now) }
+        ensures reads { FeedsOn self.old self.new (drop at.old piece.now) (drop at.new piece.now) result }
+        ensures none { OnNone result (at.new ≡ length piece.now) }
+        ensures moves { OnMessage result (at.old < at.new) }
+    {
+        while *at < piece.len() {
+            match self.advance(alloc, piece, at) {
+                Ok(None) => {}
+                Ok(Some(message)) => return Ok(Some(message)),
+                Err(error) => return Err(error),
             }
         }
+        Ok(None)
     }
 
     /// The next message. `at` moves past what was read; None where the piece is used up. The answer depends on the
@@ -64,25 +131,16 @@ impl Resp {
         ensures stands { (row : List ℕ) (messages : List Message) → StandsFor self.old (row ++ take at.old piece.now) messages
             → StandsAfter self.new (row ++ take at.new piece.now) messages result }
         ensures fault { TellsFault self.new result }
-        // The fault is at the last byte read.
-        ensures place { is_faulted self.old ≡ false → OnFault result ((row : List ℕ) (messages : List Message)
+        // The fault is at the last byte read. The refusal has its kind and its place.
+        ensures place { is_faulted self.old ≡ false → OnFault result (λ f. (row : List ℕ) (messages : List Message)
             → StandsFor self.old (row ++ take at.old piece.now) messages
-            → (place : ℕ) × (place + 1 ≡ length (row ++ take at.new piece.now)) × HasFaultAt (row ++ take at.new piece.now) place) }
-        ensures kept { is_faulted self.old ≡ true → (result ≡ Err (RespError.Refused Refusal.NotBuilt)) × (self.new ≡ self.old) × (at.new ≡ at.old) }
+            → (place : ℕ) × (place + 1 ≡ length (row ++ take at.new piece.now)) × HasRefusal (row ++ take at.new piece.now) place f) }
+        ensures kept { (f : Refusal) → refusal_of self.old ≡ Some f → (result ≡ Err (RespError.Refused f)) × (self.new ≡ self.old) × (at.new ≡ at.old) }
     {
-        if self.faulted {
-            return Err(RespError::Refused(Refusal::NotBuilt));
+        match self.refusal {
+            Some(refusal) => Err(RespError::Refused(refusal)),
+            None => self.next(alloc, piece, at),
         }
-        while *at < piece.len() {
-            let byte = piece[*at];
-            *at += 1;
-            match self.take_byte(alloc, byte) {
-                Ok(None) => {}
-                Ok(Some(message)) => return Ok(Some(message)),
-                Err(error) => return Err(error),
-            }
-        }
-        Ok(None)
     }
 
     /// Whether a message has begun. Of a reader with a fault nothing is said.
@@ -90,7 +148,7 @@ impl Resp {
         ensures { (row : List ℕ) (messages : List Message) (s : StandsFor self.now row messages)
             → is_faulted self.now ≡ false → (IsTrue result ↔ (s.rest ≢ [])) }
     {
-        !self.spot.is_start()
+        self.spot.is_inside()
     }
 }
 
@@ -105,10 +163,11 @@ pub fn one_spelling()
     ensures { (a b x y : List ℕ) (m n : Message) → Spells a m → Spells b n → a ++ x ≡ b ++ y → (a ≡ b) × (m ≡ n) }
 {}
 
-/// A stream splits in one way, and has its fault at one place.
+/// A stream splits in one way, has its fault at one place, and is refused by one refusal.
 pub fn one_reading()
     ensures split { (row : List ℕ) (ms ns : List Message) (rest end : List ℕ) → Splits row ms rest → Splits row ns end → (ms ≡ ns) × (rest ≡ end) }
     ensures place { (row : List ℕ) (p q : ℕ) → HasFaultAt row p → HasFaultAt row q → p ≡ q }
+    ensures refusal { (row : List ℕ) (p q : ℕ) (f g : Refusal) → HasRefusal row p f → HasRefusal row q g → (p ≡ q) × (f ≡ g) }
 {}
 
 /// Every stream is read by some reader: one stands for the empty row, and whatever bytes come behind a row that one

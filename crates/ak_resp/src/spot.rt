@@ -1,162 +1,472 @@
-//! Where within a message a reader is, byte by byte.
-ghost use Rattle.std.specs.Prelude.{◌≡◌, IfOk};
-ghost use Rattle.ak_resp.specs.Machine.{is_start, is_digit, is_name_byte, is_metric_byte, with_digit, value_of, read_text, at_start, at_first, at_name, at_name_end, at_time, at_time_end, at_value_first, at_value, at_value_end, at_control, at_query_front, at_flush_end, at_length_first, at_length, at_open, at_metric, at_close, step};
+//! Where within a message a reader is.
+ghost use Rattle.std.specs.Prelude.{◌≡◌, ◌++◌, ◌∷◌, ◌<◌, ◌≤◌, [], length, take, All, OnOk, ◌↔◌, IsTrue, MatchResult, IfOk, ◌^◌};
+ghost use Rattle.std.specs.List.{list_any};
+ghost use Rattle.ak_resp.specs.Machine.{opening, begin, simple, integer, bulk_head, array_head, bulk_head_end, content, array_head_end, part_end, finish, finish_name, step, extended, IsRun, is_control, head, first, Gives, Finishes, GivesName};
+ghost use Rattle.ak_resp.specs.Kinds.{allows, is_digit, goes_on};
+ghost use Rattle.ak_resp.specs.Grammar.{IsLineByte};
+ghost use Rattle.ak_resp.specs.Standing.{IsInside};
 
-use crate::message::Message;
+use crate::fault::Fault;
+use crate::message::{Message, Part, PartKind, Parts};
 use ak_base::Bytes;
 use std::alloc::{AllocError, Global};
+use std::mem;
 
-/// The most bytes of a name.
-pub const MAX_NAME: usize = 512;
+/// The most bytes of a line.
+pub const MAX_LINE: usize = 4096;
 
-/// The most digits of a time or a value.
-pub const MAX_DIGITS: u32 = 18;
+/// The most digits of a length.
+pub const MAX_DIGITS: u16 = 4096;
 
-/// The least length of a query's text: that of a metric of one byte.
-pub const MIN_TEXT: u32 = 14;
+/// The most bytes of a bulk.
+pub const MAX_BULK: u32 = 65_536;
 
-/// The greatest length of a query's text: that of a metric of 512 bytes.
-pub const MAX_TEXT: u32 = 525;
+/// The most values of an array.
+pub const MAX_ITEMS: u32 = 64;
 
-/// The length of a query's text without the metric.
-pub const TEXT_FRAME: u32 = 13;
-
-/// Where within a message a reader is. An `at` counts the bytes read of the text that stands there in each message.
+/// The parts of a message that are read, which tell what part comes next.
 #[derive(Drop)]
-pub enum Spot {
-    /// At the start of a message.
-    Start,
-    /// Behind the `+`.
-    First,
-    /// Within the name of a put.
-    Name {
-        name: Bytes,
-    },
-    /// Behind the CR of a name, within LF and `:`.
-    NameEnd {
-        name: Bytes,
-        at: usize,
-    },
-    /// Within the time.
+pub enum Progress {
+    /// None: the name of a put or of a control comes.
+    Name,
+    /// The time of a put comes.
     Time {
-        name: Bytes,
-        digits: u32,
-        time: u64,
+        name: Part,
     },
-    /// Behind the CR of a time, within LF and `:`.
-    TimeEnd {
-        name: Bytes,
-        time: u64,
-        at: usize,
-    },
-    /// Before the first byte of the value.
-    ValueFirst {
-        name: Bytes,
-        time: u64,
-    },
-    /// Within the digits of the value.
+    /// The value of a put comes, or the head of an array.
     Value {
-        name: Bytes,
-        time: u64,
-        negative: bool,
-        digits: u32,
-        magnitude: u64,
+        name: Part,
+        time: Part,
     },
-    /// Behind the CR of a value.
-    ValueEnd {
-        name: Bytes,
-        time: u64,
-        value: i64,
-    },
-    /// Behind `+!`.
-    Control,
-    /// Behind `+!q`, within `uery`, CR, LF and `$`.
-    QueryFront {
-        at: usize,
-    },
-    /// Behind `+!f`, within `lush`, CR and LF.
-    FlushEnd {
-        at: usize,
-    },
-    /// Before the first digit of the text's length.
-    LengthFirst,
-    /// Within the digits of the text's length.
-    Length {
-        length: u32,
-    },
-    /// Behind the CR of the length, within LF and `{"select":"`.
-    Open {
-        length: u32,
-        at: usize,
-    },
-    /// Within the metric, of which this many bytes are left.
-    Metric {
-        metric: Bytes,
+    /// A value of an array comes, of which this many are left.
+    Item {
+        name: Part,
+        time: Part,
+        values: Parts,
         left: u32,
     },
-    /// Behind the quote after the metric, within `}`, CR and LF.
-    Close {
-        metric: Bytes,
-        at: usize,
-    },
+    /// The JSON of a query comes.
+    Json,
 }
 
-/// What a byte makes of a spot.
-#[derive(Drop)]
-pub enum Outcome {
-    /// The message goes on.
-    Going(Spot),
-    /// The message ends with this byte.
-    Whole(Message),
-    /// No message goes on so.
-    Refused,
-}
-
-/// What a byte makes of a text that has to stand there.
+/// What byte of a part comes next.
 #[derive(Clone, Copy)]
-enum TextRead {
-    Wrong,
-    On(usize),
-    Done,
+pub enum Within {
+    /// The type byte.
+    Start,
+    /// A byte of a simple part's line, or its CR.
+    Simple,
+    /// A byte of an integer's line, or its CR.
+    Integer,
+    /// A digit of a bulk's length, or its CR, behind so many digits of this value.
+    BulkHead { digits: u16, value: u32 },
+    /// A digit of an array's length, or its CR, behind so many digits of this value.
+    ArrayHead { digits: u16, value: u32 },
+    /// The LF of a bulk's length.
+    BulkHeadEnd { value: u32 },
+    /// The LF of an array's length.
+    ArrayHeadEnd { value: u32 },
+    /// A byte of a bulk, of which this many are left, or the CR behind them.
+    Content { left: u32 },
+    /// The LF of a part.
+    PartEnd(PartKind),
+}
+
+/// Where within a message a reader is: the parts read, and the content of the part begun.
+#[derive(Drop)]
+pub struct Spot {
+    pub progress: Progress,
+    pub within: Within,
+    pub bytes: Bytes,
+}
+
+/// Why a byte was not read.
+#[derive(Drop)]
+pub enum SpotError {
+    Refused(Fault),
+    Memory,
+}
+
+impl From<AllocError> for SpotError {
+    ghost from_gives = { λ _ e. e ≡ Memory };
+
+    ghost use Rattle.ak_resp.specs.declared.spot.SpotError.TheVariants.{Memory};
+
+    fn from(_error: AllocError) -> Self {
+        SpotError::Memory
+    }
+}
+
+impl Progress {
+    /// Whether a part that begins with this type byte may come next.
+    fn allows(&self, type_byte: u8) -> bool
+        ensures { result ≡ allows self.now type_byte }
+    {
+        match self {
+            Progress::Name => type_byte == b'+' || type_byte == b'$',
+            Progress::Time { .. } => type_byte != b'*',
+            Progress::Value { .. } => true,
+            Progress::Item { .. } => type_byte == b'+' || type_byte == b':',
+            Progress::Json => type_byte == b'+' || type_byte == b'$',
+        }
+    }
+}
+
+/// What comes after a type byte.
+fn opening(type_byte: u8) -> Option<Within>
+    ensures { result ≡ opening type_byte }
+{
+    match type_byte {
+        b'+' => Some(Within::Simple),
+        b':' => Some(Within::Integer),
+        b'$' => Some(Within::BulkHead {
+            digits: 0,
+            value: 0,
+        }),
+        b'*' => Some(Within::ArrayHead {
+            digits: 0,
+            value: 0,
+        }),
+        _ => None,
+    }
 }
 
 impl Spot {
-    /// Whether no byte of a message is read.
-    pub fn is_start(&self) -> bool
-        ensures { result ≡ is_start self.now }
+    /// Where a message begins.
+    pub fn new(alloc: Global) -> Self
+        ensures { result ≡ first }
     {
-        matches!(self, Spot::Start)
+        Spot {
+            progress: Progress::Name,
+            within: Within::Start,
+            bytes: Bytes::new(alloc),
+        }
+    }
+
+    /// Whether a message has begun.
+    pub fn is_inside(&self) -> bool
+        ensures { IsTrue result ↔ IsInside self.now }
+    {
+        match (&self.progress, self.within) {
+            (Progress::Name, Within::Start) => false,
+            _ => true,
+        }
     }
 
     /// Reads a byte.
-    pub fn step(self, alloc: Global, byte: u8) -> Result<Outcome, AllocError>
-        ensures { IfOk result (λ o. o ≡ step self byte) }
+    pub fn step(&mut self, alloc: Global, byte: u8) -> Result<Option<Message>, SpotError>
+        ensures { Gives (step self.old byte) result self.old self.new }
     {
-        match self {
-            Spot::Start => Ok(at_start(byte)),
-            Spot::First => at_first(alloc, byte),
-            Spot::Name { name } => at_name(alloc, name, byte),
-            Spot::NameEnd { name, at } => Ok(at_name_end(name, at, byte)),
-            Spot::Time { name, digits, time } => Ok(at_time(name, digits, time, byte)),
-            Spot::TimeEnd { name, time, at } => Ok(at_time_end(name, time, at, byte)),
-            Spot::ValueFirst { name, time } => Ok(at_value_first(name, time, byte)),
-            Spot::Value {
+        match self.within {
+            Within::Start => self.begin(byte),
+            Within::Simple => self.simple(alloc, byte),
+            Within::Integer => self.integer(alloc, byte),
+            Within::BulkHead { digits, value } => self.bulk_head(digits, value, byte),
+            Within::ArrayHead { digits, value } => self.array_head(digits, value, byte),
+            Within::BulkHeadEnd { value } => self.bulk_head_end(value, byte),
+            Within::ArrayHeadEnd { value } => self.array_head_end(alloc, value, byte),
+            Within::Content { left } => self.content(alloc, left, byte),
+            Within::PartEnd(kind) => self.part_end(alloc, kind, byte),
+        }
+    }
+
+    /// How many bytes at the front are sure to be content, and can be taken together.
+    pub fn run_length(&self, bytes: &[u8]) -> usize
+        ensures within { result ≤ length bytes.now }
+        ensures plain { IsRun self.now (take result bytes.now) }
+    {
+        match self.within {
+            Within::Simple => line_length(
+                bytes,
+                MAX_LINE.saturating_sub(self.bytes.as_slice().len()),
+            ),
+            Within::Content { left } => bytes.len().min(left as usize),
+            _ => 0,
+        }
+    }
+
+    /// Takes content.
+    pub fn extend(&mut self, alloc: Global, bytes: &[u8]) -> Result<(), AllocError>
+        requires { IsRun self.old bytes.now }
+        ensures { OnOk result (self.new ≡ extended self.old bytes.now) }
+    {
+        self.bytes.extend(alloc, bytes)?;
+        if let Within::Content { left } = self.within {
+            self.within = Within::Content {
+                left: left - bytes.len() as u32,
+            };
+        }
+        Ok(())
+    }
+
+    /// Reads the first byte of a part.
+    fn begin(&mut self, byte: u8) -> Result<Option<Message>, SpotError>
+        ensures { Gives (begin self.old byte) result self.old self.new }
+    {
+        match opening(byte) {
+            Some(within) => {
+                if self.progress.allows(byte) {
+                    self.within = within;
+                    Ok(None)
+                } else {
+                    Err(SpotError::Refused(Fault::BadShape))
+                }
+            }
+            None => {
+                if byte == b'\n' {
+                    Err(SpotError::Refused(Fault::BadEnd))
+                } else {
+                    Err(SpotError::Refused(Fault::BadKind))
+                }
+            }
+        }
+    }
+
+    /// Reads a byte of a simple part's line.
+    fn simple(&mut self, alloc: Global, byte: u8) -> Result<Option<Message>, SpotError>
+        ensures { Gives (simple self.old byte) result self.old self.new }
+    {
+        if byte == b'\n' {
+            Err(SpotError::Refused(Fault::BadEnd))
+        } else if byte == b'\r' {
+            self.within = Within::PartEnd(PartKind::Simple);
+            Ok(None)
+        } else if self.bytes.as_slice().len() >= MAX_LINE {
+            Err(SpotError::Refused(Fault::LongLine))
+        } else {
+            self.bytes.push(alloc, byte)?;
+            Ok(None)
+        }
+    }
+
+    /// Reads a byte of an integer part's line.
+    fn integer(&mut self, alloc: Global, byte: u8) -> Result<Option<Message>, SpotError>
+        ensures { Gives (integer self.old byte) result self.old self.new }
+    {
+        if byte == b'\n' {
+            Err(SpotError::Refused(Fault::BadEnd))
+        } else if byte == b'\r' {
+            if has_digit(self.bytes.as_slice()) {
+                self.within = Within::PartEnd(PartKind::Integer);
+                Ok(None)
+            } else {
+                Err(SpotError::Refused(Fault::BadNumber))
+            }
+        } else if self.bytes.as_slice().len() >= MAX_LINE {
+            Err(SpotError::Refused(Fault::LongLine))
+        } else if goes_on(self.bytes.as_slice(), byte) {
+            self.bytes.push(alloc, byte)?;
+            Ok(None)
+        } else {
+            Err(SpotError::Refused(Fault::BadNumber))
+        }
+    }
+
+    /// Reads a byte of a bulk's length.
+    fn bulk_head(&mut self, digits: u16, value: u32, byte: u8) -> Result<Option<Message>, SpotError>
+        ensures { Gives (bulk_head self.old digits value byte) result self.old self.new }
+    {
+        match head(digits, value, byte, MAX_BULK, Fault::LongBulk) {
+            Ok(Some((digits, value))) => {
+                self.within = Within::BulkHead { digits, value };
+                Ok(None)
+            }
+            Ok(None) => {
+                self.within = Within::BulkHeadEnd { value };
+                Ok(None)
+            }
+            Err(fault) => Err(SpotError::Refused(fault)),
+        }
+    }
+
+    /// Reads a byte of an array's length.
+    fn array_head(
+        &mut self,
+        digits: u16,
+        value: u32,
+        byte: u8,
+    ) -> Result<Option<Message>, SpotError>
+        ensures { Gives (array_head self.old digits value byte) result self.old self.new }
+    {
+        match head(digits, value, byte, MAX_ITEMS, Fault::BadShape) {
+            Ok(Some((digits, value))) => {
+                self.within = Within::ArrayHead { digits, value };
+                Ok(None)
+            }
+            Ok(None) => {
+                self.within = Within::ArrayHeadEnd { value };
+                Ok(None)
+            }
+            Err(fault) => Err(SpotError::Refused(fault)),
+        }
+    }
+
+    /// Reads the last byte of a bulk's head.
+    fn bulk_head_end(&mut self, value: u32, byte: u8) -> Result<Option<Message>, SpotError>
+        ensures { Gives (bulk_head_end self.old value byte) result self.old self.new }
+    {
+        if byte == b'\n' {
+            self.within = Within::Content { left: value };
+            Ok(None)
+        } else {
+            Err(SpotError::Refused(Fault::BadEnd))
+        }
+    }
+
+    /// Reads a byte of a bulk's content, or the CR after it.
+    fn content(&mut self, alloc: Global, left: u32, byte: u8) -> Result<Option<Message>, SpotError>
+        ensures { Gives (content self.old left byte) result self.old self.new }
+    {
+        if left > 0 {
+            self.bytes.push(alloc, byte)?;
+            self.within = Within::Content { left: left - 1 };
+            Ok(None)
+        } else if byte == b'\r' {
+            self.within = Within::PartEnd(PartKind::Bulk);
+            Ok(None)
+        } else {
+            Err(SpotError::Refused(Fault::BadEnd))
+        }
+    }
+
+    /// Reads the last byte of an array's head.
+    fn array_head_end(
+        &mut self,
+        alloc: Global,
+        value: u32,
+        byte: u8,
+    ) -> Result<Option<Message>, SpotError>
+        ensures { Gives (array_head_end self.old value byte) result self.old self.new }
+    {
+        if byte != b'\n' {
+            return Err(SpotError::Refused(Fault::BadEnd));
+        }
+        match mem::replace(&mut self.progress, Progress::Name) {
+            Progress::Value { name, time } => {
+                self.within = Within::Start;
+                self.bytes = Bytes::new(alloc);
+                let values = Parts::new(alloc);
+                if value == 0 {
+                    Ok(Some(Message::Put { name, time, values }))
+                } else {
+                    self.progress = Progress::Item {
+                        name,
+                        time,
+                        values,
+                        left: value,
+                    };
+                    Ok(None)
+                }
+            }
+            other => {
+                self.progress = other;
+                Err(SpotError::Refused(Fault::BadShape))
+            }
+        }
+    }
+
+    /// Reads the last byte of a part.
+    fn part_end(
+        &mut self,
+        alloc: Global,
+        kind: PartKind,
+        byte: u8,
+    ) -> Result<Option<Message>, SpotError>
+        ensures { Gives (part_end self.old kind byte) result self.old self.new }
+    {
+        if byte != b'\n' {
+            return Err(SpotError::Refused(Fault::BadEnd));
+        }
+        self.within = Within::Start;
+        let bytes = mem::replace(&mut self.bytes, Bytes::new(alloc));
+        self.finish(alloc, Part { kind, bytes })
+    }
+
+    /// Adds a whole part.
+    fn finish(&mut self, alloc: Global, part: Part) -> Result<Option<Message>, SpotError>
+        requires within { self.old.within ≡ Within.Start }
+        requires bytes { self.old.bytes ≡ [] }
+        ensures { Finishes (finish self.old.progress part) result self.new }
+    {
+        match mem::replace(&mut self.progress, Progress::Name) {
+            Progress::Name => Ok(self.finish_name(part)),
+            Progress::Time { name } => {
+                self.progress = Progress::Value { name, time: part };
+                Ok(None)
+            }
+            Progress::Value { name, time } => {
+                let mut values = Parts::new(alloc);
+                values.push(alloc, part)?;
+                Ok(Some(Message::Put { name, time, values }))
+            }
+            Progress::Item {
                 name,
                 time,
-                negative,
-                digits,
-                magnitude,
-            } => Ok(at_value(name, time, negative, digits, magnitude, byte)),
-            Spot::ValueEnd { name, time, value } => Ok(at_value_end(name, time, value, byte)),
-            Spot::Control => Ok(at_control(byte)),
-            Spot::QueryFront { at } => Ok(at_query_front(at, byte)),
-            Spot::FlushEnd { at } => Ok(at_flush_end(at, byte)),
-            Spot::LengthFirst => Ok(at_length_first(byte)),
-            Spot::Length { length } => Ok(at_length(length, byte)),
-            Spot::Open { length, at } => Ok(at_open(alloc, length, at, byte)),
-            Spot::Metric { metric, left } => at_metric(alloc, metric, left, byte),
-            Spot::Close { metric, at } => Ok(at_close(metric, at, byte)),
+                mut values,
+                left,
+            } => {
+                values.push(alloc, part)?;
+                if left <= 1 {
+                    Ok(Some(Message::Put { name, time, values }))
+                } else {
+                    self.progress = Progress::Item {
+                        name,
+                        time,
+                        values,
+                        left: left - 1,
+                    };
+                    Ok(None)
+                }
+            }
+            Progress::Json => Ok(Some(Message::Query(part))),
         }
+    }
+
+    /// Adds a name part.
+    fn finish_name(&mut self, name: Part) -> Option<Message>
+        requires progress { self.old.progress ≡ Progress.Name }
+        requires within { self.old.within ≡ Within.Start }
+        requires bytes { self.old.bytes ≡ [] }
+        ensures { GivesName (finish_name name) result self.new }
+    {
+        let text = name.bytes.as_slice();
+        if !is_control(text) {
+            self.progress = Progress::Time { name };
+            None
+        } else if text == b"!query".as_slice() {
+            self.progress = Progress::Json;
+            None
+        } else if text == b"!flush".as_slice() {
+            Some(Message::Flush)
+        } else {
+            Some(Message::Unknown)
+        }
+    }
+}
+
+/// How many bytes at the front, of at most `most`, are content of a line.
+fn line_length(bytes: &[u8], most: usize) -> usize
+    ensures within { result ≤ length bytes.now }
+    ensures most { result ≤ most }
+    ensures content { All IsLineByte (take result bytes.now) }
+{
+    let front = &bytes[..bytes.len().min(most)];
+    match front
+        .iter()
+        .position(|byte| *byte == b'\r' || *byte == b'\n')
+    {
+        Some(length) => length,
+        None => front.len(),
+    }
+}
+
+/// Whether a name is that of a control.
+fn is_control(name: &[u8]) -> bool
+    ensures { result ≡ is_control name.now }
+{
+    match name.first() {
+        Some(byte) => *byte == b'!',
+        None => false,
     }
 }
 
@@ -167,311 +477,50 @@ fn is_digit(byte: u8) -> bool
     byte >= b'0' && byte <= b'9'
 }
 
-/// Whether a byte may stand in a name.
-fn is_name_byte(byte: u8) -> bool
-    ensures { result ≡ is_name_byte byte }
+/// Whether a digit is among the bytes.
+fn has_digit(bytes: &[u8]) -> bool
+    ensures { result ≡ list_any is_digit bytes.now }
 {
-    byte >= b' ' && byte <= b'~' && byte != b',' && byte != b'"'
+    bytes.iter().any(|byte| is_digit(*byte))
 }
 
-/// Whether a byte may stand in a metric.
-fn is_metric_byte(byte: u8) -> bool
-    ensures { result ≡ is_metric_byte byte }
+/// Whether a number that begins with these bytes may go on with this one.
+fn goes_on(bytes: &[u8], byte: u8) -> bool
+    ensures { result ≡ goes_on bytes.now byte }
 {
-    (byte >= b'A' && byte <= b'Z')
-        || (byte >= b'a' && byte <= b'z')
-        || is_digit(byte)
-        || byte == b'.'
-        || byte == b'_'
-        || byte == b'-'
+    is_digit(byte) || (bytes.is_empty() && (byte == b'+' || byte == b'-'))
 }
 
-/// A number with a digit behind it. It stops at the greatest number, which no 18 digits reach.
-fn with_digit(number: u64, byte: u8) -> u64
-    ensures { result ≡ with_digit number byte }
-{
-    number
-        .saturating_mul(10)
-        .saturating_add(u64::from(byte.saturating_sub(b'0')))
-}
-
-/// The value of a sign and digits.
-fn value_of(negative: bool, magnitude: u64) -> i64
-    ensures { result ≡ value_of negative magnitude }
-{
-    let value = magnitude.min(i64::MAX as u64) as i64;
-    if negative { -value } else { value }
-}
-
-/// What a byte makes of a text of which `at` bytes are read.
-fn read_text(text: &[u8], at: usize, byte: u8) -> TextRead
-    ensures { result ≡ read_text text.now at byte }
-{
-    if at >= text.len() || text[at] != byte {
-        TextRead::Wrong
-    } else if at + 1 == text.len() {
-        TextRead::Done
-    } else {
-        TextRead::On(at + 1)
-    }
-}
-
-fn at_start(byte: u8) -> Outcome
-    ensures { result ≡ at_start byte }
-{
-    if byte == b'+' {
-        Outcome::Going(Spot::First)
-    } else {
-        Outcome::Refused
-    }
-}
-
-fn at_first(alloc: Global, byte: u8) -> Result<Outcome, AllocError>
-    ensures { IfOk result (λ o. o ≡ at_first byte) }
-{
-    if byte == b'!' {
-        Ok(Outcome::Going(Spot::Control))
-    } else if is_name_byte(byte) && byte != b' ' {
-        let mut name = Bytes::new(alloc);
-        name.push(alloc, byte)?;
-        Ok(Outcome::Going(Spot::Name { name }))
-    } else {
-        Ok(Outcome::Refused)
-    }
-}
-
-fn at_name(alloc: Global, name: Bytes, byte: u8) -> Result<Outcome, AllocError>
-    ensures { IfOk result (λ o. o ≡ at_name name byte) }
-{
-    if byte == b'\r' {
-        Ok(Outcome::Going(Spot::NameEnd { name, at: 0 }))
-    } else if is_name_byte(byte) && name.as_slice().len() < MAX_NAME {
-        let mut name = name;
-        name.push(alloc, byte)?;
-        Ok(Outcome::Going(Spot::Name { name }))
-    } else {
-        Ok(Outcome::Refused)
-    }
-}
-
-fn at_name_end(name: Bytes, at: usize, byte: u8) -> Outcome
-    ensures { result ≡ at_name_end name at byte }
-{
-    match read_text(b"\n:", at, byte) {
-        TextRead::Wrong => Outcome::Refused,
-        TextRead::On(at) => Outcome::Going(Spot::NameEnd { name, at }),
-        TextRead::Done => Outcome::Going(Spot::Time {
-            name,
-            digits: 0,
-            time: 0,
-        }),
-    }
-}
-
-fn at_time(name: Bytes, digits: u32, time: u64, byte: u8) -> Outcome
-    ensures { result ≡ at_time name digits time byte }
-{
-    if byte == b'\r' {
-        if digits == 0 {
-            Outcome::Refused
-        } else {
-            Outcome::Going(Spot::TimeEnd { name, time, at: 0 })
-        }
-    } else if is_digit(byte) && digits < MAX_DIGITS {
-        Outcome::Going(Spot::Time {
-            name,
-            digits: digits + 1,
-            time: with_digit(time, byte),
-        })
-    } else {
-        Outcome::Refused
-    }
-}
-
-fn at_time_end(name: Bytes, time: u64, at: usize, byte: u8) -> Outcome
-    ensures { result ≡ at_time_end name time at byte }
-{
-    match read_text(b"\n:", at, byte) {
-        TextRead::Wrong => Outcome::Refused,
-        TextRead::On(at) => Outcome::Going(Spot::TimeEnd { name, time, at }),
-        TextRead::Done => Outcome::Going(Spot::ValueFirst { name, time }),
-    }
-}
-
-fn at_value_first(name: Bytes, time: u64, byte: u8) -> Outcome
-    ensures { result ≡ at_value_first name time byte }
-{
-    if byte == b'-' {
-        Outcome::Going(Spot::Value {
-            name,
-            time,
-            negative: true,
-            digits: 0,
-            magnitude: 0,
-        })
-    } else if is_digit(byte) {
-        Outcome::Going(Spot::Value {
-            name,
-            time,
-            negative: false,
-            digits: 1,
-            magnitude: u64::from(byte - b'0'),
-        })
-    } else {
-        Outcome::Refused
-    }
-}
-
-fn at_value(
-    name: Bytes,
-    time: u64,
-    negative: bool,
-    digits: u32,
-    magnitude: u64,
+/// Reads a byte of a number of at most `most`: how many digits and what value there are now, or None at its CR.
+fn head(
+    digits: u16,
+    value: u32,
     byte: u8,
-) -> Outcome
-    ensures { result ≡ at_value name time negative digits magnitude byte }
-{
-    if byte == b'\r' {
-        if digits == 0 {
-            Outcome::Refused
-        } else {
-            Outcome::Going(Spot::ValueEnd {
-                name,
-                time,
-                value: value_of(negative, magnitude),
-            })
-        }
-    } else if is_digit(byte) && digits < MAX_DIGITS {
-        Outcome::Going(Spot::Value {
-            name,
-            time,
-            negative,
-            digits: digits + 1,
-            magnitude: with_digit(magnitude, byte),
-        })
-    } else {
-        Outcome::Refused
-    }
-}
-
-fn at_value_end(name: Bytes, time: u64, value: i64, byte: u8) -> Outcome
-    ensures { result ≡ at_value_end name time value byte }
+    most: u32,
+    above: Fault,
+) -> Result<Option<(u16, u32)>, Fault>
+    requires { most < 2 ^ 31 }
+    ensures { result ≡ head digits value byte most above }
 {
     if byte == b'\n' {
-        Outcome::Whole(Message::Put { name, time, value })
-    } else {
-        Outcome::Refused
+        return Err(Fault::BadEnd);
     }
-}
-
-fn at_control(byte: u8) -> Outcome
-    ensures { result ≡ at_control byte }
-{
-    if byte == b'q' {
-        Outcome::Going(Spot::QueryFront { at: 0 })
-    } else if byte == b'f' {
-        Outcome::Going(Spot::FlushEnd { at: 0 })
-    } else {
-        Outcome::Refused
-    }
-}
-
-fn at_query_front(at: usize, byte: u8) -> Outcome
-    ensures { result ≡ at_query_front at byte }
-{
-    match read_text(b"uery\r\n$", at, byte) {
-        TextRead::Wrong => Outcome::Refused,
-        TextRead::On(at) => Outcome::Going(Spot::QueryFront { at }),
-        TextRead::Done => Outcome::Going(Spot::LengthFirst),
-    }
-}
-
-fn at_flush_end(at: usize, byte: u8) -> Outcome
-    ensures { result ≡ at_flush_end at byte }
-{
-    match read_text(b"lush\r\n", at, byte) {
-        TextRead::Wrong => Outcome::Refused,
-        TextRead::On(at) => Outcome::Going(Spot::FlushEnd { at }),
-        TextRead::Done => Outcome::Whole(Message::Flush),
-    }
-}
-
-fn at_length_first(byte: u8) -> Outcome
-    ensures { result ≡ at_length_first byte }
-{
-    if is_digit(byte) && byte != b'0' {
-        Outcome::Going(Spot::Length {
-            length: u32::from(byte - b'0'),
-        })
-    } else {
-        Outcome::Refused
-    }
-}
-
-fn at_length(length: u32, byte: u8) -> Outcome
-    ensures { result ≡ at_length length byte }
-{
     if byte == b'\r' {
-        if length < MIN_TEXT {
-            Outcome::Refused
+        return if digits == 0 {
+            Err(Fault::BadNumber)
         } else {
-            Outcome::Going(Spot::Open { length, at: 0 })
-        }
-    } else if is_digit(byte) {
-        let next = u64::from(length) * 10 + u64::from(byte - b'0');
-        if next > u64::from(MAX_TEXT) {
-            Outcome::Refused
-        } else {
-            Outcome::Going(Spot::Length {
-                length: next as u32,
-            })
-        }
-    } else {
-        Outcome::Refused
+            Ok(None)
+        };
     }
-}
-
-fn at_open(alloc: Global, length: u32, at: usize, byte: u8) -> Outcome
-    ensures { result ≡ at_open length at byte }
-{
-    match read_text(b"\n{\"select\":\"", at, byte) {
-        TextRead::Wrong => Outcome::Refused,
-        TextRead::On(at) => Outcome::Going(Spot::Open { length, at }),
-        TextRead::Done => Outcome::Going(Spot::Metric {
-            metric: Bytes::new(alloc),
-            left: length.saturating_sub(TEXT_FRAME),
-        }),
+    if digits >= MAX_DIGITS {
+        return Err(Fault::LongLine);
     }
-}
-
-fn at_metric(alloc: Global, metric: Bytes, left: u32, byte: u8) -> Result<Outcome, AllocError>
-    ensures { IfOk result (λ o. o ≡ at_metric metric left byte) }
-{
-    if left == 0 {
-        if byte == b'"' {
-            Ok(Outcome::Going(Spot::Close { metric, at: 0 }))
-        } else {
-            Ok(Outcome::Refused)
-        }
-    } else if is_metric_byte(byte) {
-        let mut metric = metric;
-        metric.push(alloc, byte)?;
-        Ok(Outcome::Going(Spot::Metric {
-            metric,
-            left: left - 1,
-        }))
-    } else {
-        Ok(Outcome::Refused)
+    if !is_digit(byte) {
+        return Err(Fault::BadNumber);
     }
-}
-
-fn at_close(metric: Bytes, at: usize, byte: u8) -> Outcome
-    ensures { result ≡ at_close metric at byte }
-{
-    match read_text(b"}\r\n", at, byte) {
-        TextRead::Wrong => Outcome::Refused,
-        TextRead::On(at) => Outcome::Going(Spot::Close { metric, at }),
-        TextRead::Done => Outcome::Whole(Message::Query { metric }),
+    let next = u64::from(value) * 10 + u64::from(byte - b'0');
+    if next > u64::from(most) {
+        return Err(above);
     }
+    Ok(Some((digits + 1, next as u32)))
 }

@@ -1,211 +1,209 @@
 //! Streams, whole and byte by byte.
-use crate::{Message, Resp, RespError};
+use crate::{Message, Part, PartKind, Resp, RespError};
 use ak_base::{Bytes, Refusal};
 use std::alloc::{AllocError, Global};
 use std::test::Fail;
 
-const FAULT: RespError = RespError::Refused(Refusal::NotBuilt);
+const MESSAGES: &[u8] =
+    b"+cpu host=a\r\n:100\r\n+-1.5\r\n$1\r\nb\r\n$3\r\nnow\r\n*2\r\n:+7\r\n+x\r\n+!query\r\n$2\r\n{}\r\n+!flush\r\n+!stop\r\n+c\r\n+\r\n*0\r\n";
 
-const PUT: &[u8] = b"+cpu host=a\r\n:100\r\n:-5\r\n";
-
-const QUERY: &[u8] = b"+!query\r\n$16\r\n{\"select\":\"cpu\"}\r\n";
-
-const FLUSH: &[u8] = b"+!flush\r\n";
-
-fn is_put(message: &Message, wanted: &[u8], at: u64, units: i64) -> bool {
-    match message {
-        Message::Put { name, time, value } => {
-            name.as_slice() == wanted && *time == at && *value == units
-        }
-        Message::Query { .. } | Message::Flush => false,
-    }
+fn is_part(part: &Part, kind: PartKind, text: &[u8]) -> bool {
+    part.kind == kind && part.bytes.as_slice() == text
 }
 
-fn is_query(message: &Message, wanted: &[u8]) -> bool {
-    match message {
-        Message::Put { .. } | Message::Flush => false,
-        Message::Query { metric } => metric.as_slice() == wanted,
-    }
-}
-
-fn is_flush(message: &Message) -> bool {
-    matches!(message, Message::Flush)
-}
-
-/// How many bytes of a stream are read up to its fault, and with it. None where no fault is answered.
-fn fault_behind(alloc: Global, stream: &[u8]) -> Result<Option<usize>, RespError> {
-    let mut reader = Resp::new(alloc)?;
-    let mut at = 0;
-    match reader.feed(alloc, stream, &mut at) {
+fn refusal_in(answer: Result<Option<Message>, RespError>) -> Result<Option<Refusal>, RespError> {
+    match answer {
         Ok(_) => Ok(None),
-        Err(RespError::Refused(_)) => Ok(Some(at)),
+        Err(RespError::Refused(refusal)) => Ok(Some(refusal)),
         Err(RespError::Memory) => Err(RespError::Memory),
     }
 }
 
-/// A `+`, this many letters and a text.
-fn named(alloc: Global, letters: u32, behind: &[u8]) -> Result<Bytes, AllocError> {
-    let mut stream = Bytes::new(alloc);
-    stream.push(alloc, b'+')?;
-    for _ in 0..letters {
-        stream.push(alloc, b'n')?;
+/// What a stream of one message or less is refused by, read at once.
+fn refusal_whole(alloc: Global, stream: &[u8]) -> Result<Option<Refusal>, RespError> {
+    let mut reader = Resp::new(alloc)?;
+    let mut at = 0;
+    refusal_in(reader.feed(alloc, stream, &mut at))
+}
+
+/// What a stream is refused by, read byte by byte.
+fn refusal_by_bytes(alloc: Global, stream: &[u8]) -> Result<Option<Refusal>, RespError> {
+    let mut reader = Resp::new(alloc)?;
+    for byte in stream {
+        let mut at = 0;
+        let refusal = refusal_in(reader.feed(alloc, &[*byte], &mut at))?;
+        if refusal.is_some() {
+            return Ok(refusal);
+        }
     }
-    stream.extend(alloc, behind)?;
+    Ok(None)
+}
+
+/// A text, and a letter so many times.
+fn filled(alloc: Global, front: &[u8], letters: u32) -> Result<Bytes, AllocError> {
+    let mut stream = Bytes::new(alloc);
+    stream.extend(alloc, front)?;
+    for _ in 0..letters {
+        stream.push(alloc, b'a')?;
+    }
     Ok(stream)
 }
 
+/// The kinds of a put's parts, or a letter for another message.
+fn shape(message: &Message) -> &str {
+    match message {
+        Message::Put { values, .. } => match values.as_slice() {
+            [] => "put of none",
+            [_] => "put",
+            _ => "put of more",
+        },
+        Message::Query(_) => "query",
+        Message::Flush => "flush",
+        Message::Unknown => "unknown",
+    }
+}
+
 #[test]
-fn reads_whole(rt: HostRuntime) -> Result<(), Fail> {
+fn faults(rt: HostRuntime) -> Result<(), Fail> {
     let alloc = rt.alloc();
-    let mut stream = Bytes::new(alloc);
-    stream.extend(alloc, PUT)?;
-    stream.extend(alloc, FLUSH)?;
-    stream.extend(alloc, QUERY)?;
-    let piece = stream.as_slice();
+    let long = filled(alloc, b"+", 4097)?;
+    let number = filled(alloc, b"+a\r\n:1", 1)?;
+    let streams: [(&[u8], Refusal); 22] = [
+        (b"?", Refusal::BadKind { at: 0 }),
+        (b"\r", Refusal::BadKind { at: 0 }),
+        (number.as_slice(), Refusal::BadNumber { at: 6 }),
+        (b"+a\r\n:1x", Refusal::BadNumber { at: 6 }),
+        (b"+a\r\n:\r", Refusal::BadNumber { at: 5 }),
+        (b"+a\r\n:-\r", Refusal::BadNumber { at: 6 }),
+        (b"+a\r\n:1-", Refusal::BadNumber { at: 6 }),
+        (b"$-", Refusal::BadNumber { at: 1 }),
+        (long.as_slice(), Refusal::LongLine { at: 4097 }),
+        (b"+a\rb", Refusal::BadEnd { at: 3 }),
+        (b"\n", Refusal::BadEnd { at: 0 }),
+        (b"+a\n", Refusal::BadEnd { at: 2 }),
+        (b"+a\r\n\n", Refusal::BadEnd { at: 4 }),
+        (b"$2\r\nabc", Refusal::BadEnd { at: 6 }),
+        (b"$2\r\nab\ra", Refusal::BadEnd { at: 7 }),
+        (b"$65537", Refusal::LongBulk { at: 5 }),
+        (b"$065537", Refusal::LongBulk { at: 6 }),
+        (b":5\r\n", Refusal::BadShape { at: 0 }),
+        (b"+a\r\n*1", Refusal::BadShape { at: 4 }),
+        (b"+a\r\n:1\r\n*65", Refusal::BadShape { at: 10 }),
+        (b"+a\r\n:1\r\n*1\r\n$1", Refusal::BadShape { at: 12 }),
+        (b"+!query\r\n:1", Refusal::BadShape { at: 9 }),
+    ];
+    for (stream, refusal) in streams {
+        assert_eq!(rt; refusal_whole(alloc, stream)?, Some(refusal));
+        assert_eq!(rt; refusal_by_bytes(alloc, stream)?, Some(refusal));
+    }
+    let longest = filled(alloc, b"+", 4096)?;
+    assert_eq!(rt; refusal_whole(alloc, longest.as_slice())?, None);
+    let behind = b"+!flush\r\n+!stop\r\n+a\r\n:1\r\n:2\r\nx";
+    assert_eq!(rt;
+        refusal_by_bytes(alloc, behind)?,
+        Some(Refusal::BadKind { at: 29 })
+    );
+    Ok(())
+}
+
+#[test]
+fn reads_parts(rt: HostRuntime) -> Result<(), Fail> {
+    let alloc = rt.alloc();
     let mut reader = Resp::new(alloc)?;
     let mut at = 0;
-    let first = reader.feed(alloc, piece, &mut at)?.ok_or("no put")?;
-    assert!(rt; is_put(&first, b"cpu host=a", 100, -5));
-    assert_eq!(rt; at, PUT.len());
+    let one = reader.feed(alloc, MESSAGES, &mut at)?.ok_or("no put")?;
+    assert_eq!(rt; at, 26);
     assert!(rt; !reader.inside());
-    let second = reader.feed(alloc, piece, &mut at)?.ok_or("no flush")?;
-    assert!(rt; is_flush(&second));
-    assert_eq!(rt; at, PUT.len() + FLUSH.len());
-    assert!(rt; !reader.inside());
-    let third = reader.feed(alloc, piece, &mut at)?.ok_or("no query")?;
-    assert!(rt; is_query(&third, b"cpu"));
-    assert_eq!(rt; at, piece.len());
-    assert!(rt; reader.feed(alloc, piece, &mut at)?.is_none());
+    let Message::Put { name, time, values } = one else {
+        return Err("no put".into());
+    };
+    assert!(rt; is_part(&name, PartKind::Simple, b"cpu host=a"));
+    assert!(rt; is_part(&time, PartKind::Integer, b"100"));
+    let [value] = values.as_slice() else {
+        return Err("more values".into());
+    };
+    assert!(rt; is_part(value, PartKind::Simple, b"-1.5"));
+    let more = reader.feed(alloc, MESSAGES, &mut at)?.ok_or("no put")?;
+    let Message::Put { name, time, values } = more else {
+        return Err("no put".into());
+    };
+    assert!(rt; is_part(&name, PartKind::Bulk, b"b"));
+    assert!(rt; is_part(&time, PartKind::Bulk, b"now"));
+    let [first, second] = values.as_slice() else {
+        return Err("other values".into());
+    };
+    assert!(rt; is_part(first, PartKind::Integer, b"+7"));
+    assert!(rt; is_part(second, PartKind::Simple, b"x"));
+    let query = reader.feed(alloc, MESSAGES, &mut at)?.ok_or("no query")?;
+    let Message::Query(json) = query else {
+        return Err("no query".into());
+    };
+    assert!(rt; is_part(&json, PartKind::Bulk, b"{}"));
+    let flush = reader.feed(alloc, MESSAGES, &mut at)?.ok_or("no flush")?;
+    assert_eq!(rt; shape(&flush), "flush");
+    let stop = reader.feed(alloc, MESSAGES, &mut at)?.ok_or("no stop")?;
+    assert_eq!(rt; shape(&stop), "unknown");
+    let none = reader.feed(alloc, MESSAGES, &mut at)?.ok_or("no put")?;
+    assert_eq!(rt; shape(&none), "put of none");
+    assert_eq!(rt; at, MESSAGES.len());
+    assert!(rt; reader.feed(alloc, MESSAGES, &mut at)?.is_none());
     Ok(())
 }
 
 #[test]
 fn reads_each_byte(rt: HostRuntime) -> Result<(), Fail> {
     let alloc = rt.alloc();
-    let mut stream = Bytes::new(alloc);
-    stream.extend(alloc, QUERY)?;
-    stream.extend(alloc, PUT)?;
     let mut reader = Resp::new(alloc)?;
-    for (index, byte) in stream.as_slice().iter().enumerate() {
+    let mut told = String::new(alloc);
+    for byte in MESSAGES {
         let mut at = 0;
         match reader.feed(alloc, &[*byte], &mut at)? {
             Some(message) => {
-                if index + 1 == QUERY.len() {
-                    assert!(rt; is_query(&message, b"cpu"));
-                } else {
-                    assert_eq!(rt; index + 1, QUERY.len() + PUT.len());
-                    assert!(rt; is_put(&message, b"cpu host=a", 100, -5));
-                }
+                told.push_str(shape(&message))?;
+                told.push_str(", ")?;
             }
             None => assert!(rt; reader.inside()),
         }
     }
+    assert_eq!(rt;
+        told.as_str(),
+        "put, put of more, query, flush, unknown, put of none, "
+    );
     Ok(())
 }
 
 #[test]
-fn reads_a_flush_in_two_pieces(rt: HostRuntime) -> Result<(), Fail> {
+fn reads_the_longest_bulk(rt: HostRuntime) -> Result<(), Fail> {
     let alloc = rt.alloc();
-    for cut in 1..FLUSH.len() {
-        let (front, behind) = FLUSH.split_at(cut);
-        let mut reader = Resp::new(alloc)?;
-        let mut at = 0;
-        assert!(rt; reader.feed(alloc, front, &mut at)?.is_none());
-        assert_eq!(rt; at, cut);
-        assert!(rt; reader.inside());
-        let mut at = 0;
-        let message = reader.feed(alloc, behind, &mut at)?.ok_or("no flush")?;
-        assert!(rt; is_flush(&message));
-        assert_eq!(rt; at, behind.len());
-        assert!(rt; !reader.inside());
-    }
-    Ok(())
-}
-
-#[test]
-fn reads_a_flush_byte_by_byte(rt: HostRuntime) -> Result<(), Fail> {
-    let alloc = rt.alloc();
+    let mut stream = filled(alloc, b"+a\r\n:1\r\n$65536\r\n", 65_536)?;
+    stream.extend(alloc, b"\r\n")?;
+    let piece = stream.as_slice();
     let mut reader = Resp::new(alloc)?;
-    for (index, byte) in FLUSH.iter().enumerate() {
-        let mut at = 0;
-        match reader.feed(alloc, &[*byte], &mut at)? {
-            Some(message) => {
-                assert_eq!(rt; index + 1, FLUSH.len());
-                assert!(rt; is_flush(&message));
-            }
-            None => {
-                assert!(rt; index + 1 < FLUSH.len());
-                assert!(rt; reader.inside());
-            }
-        }
-    }
-    assert!(rt; !reader.inside());
-    Ok(())
-}
-
-#[test]
-fn faults(rt: HostRuntime) -> Result<(), Fail> {
-    let alloc = rt.alloc();
-    let streams: [(&[u8], usize); 17] = [
-        (b"?", 1),
-        (b"+a,b\r\n", 3),
-        (b"+ a\r\n", 2),
-        (b"+!x", 3),
-        (b"+!flusk", 7),
-        (b"+!flush\n", 8),
-        (b"+!flush\r\r", 9),
-        (b"+a\n:1", 3),
-        (b"+a\r\n:\r\n", 6),
-        (b"+a\r\n:1234567890123456789\r\n", 24),
-        (b"+a\r\n:1\r\n:-\r\n", 11),
-        (b"+!query\r\n$0", 11),
-        (b"+!query\r\n$13\r\n", 13),
-        (b"+!query\r\n$600\r\n", 13),
-        (b"+!query\r\n$526\r\n", 13),
-        (b"+!query\r\n$15\r\n{\"select\":\"c\"}", 27),
-        (b"+!query\r\n$14\r\n{\"select\":\"cc", 27),
-    ];
-    for (stream, behind) in streams {
-        assert_eq!(rt; fault_behind(alloc, stream)?, Some(behind));
-    }
-    let longest = named(alloc, 512, b"\r\n:0\r\n:0\r")?;
-    assert_eq!(rt; fault_behind(alloc, longest.as_slice())?, None);
-    let longer = named(alloc, 513, b"\r\n:0\r\n:0\r")?;
-    assert_eq!(rt; fault_behind(alloc, longer.as_slice())?, Some(514));
+    let mut at = 0;
+    let put = reader.feed(alloc, piece, &mut at)?.ok_or("no put")?;
+    assert_eq!(rt; at, piece.len());
+    let Message::Put { values, .. } = put else {
+        return Err("no put".into());
+    };
+    let [value] = values.as_slice() else {
+        return Err("more values".into());
+    };
+    assert!(rt; value.kind == PartKind::Bulk);
+    assert_eq!(rt; value.bytes.as_slice().len(), 65_536);
+    assert_eq!(rt; refusal_by_bytes(alloc, piece)?, None);
     Ok(())
 }
 
 #[test]
 fn tells_a_fault_again(rt: HostRuntime) -> Result<(), Fail> {
     let alloc = rt.alloc();
-    let piece = b"+a\r\n:1\r\n:x+a\r\n:1\r\n:1\r\n";
+    let piece = b"+a\r\n:1x+a\r\n:1\r\n:1\r\n";
     let mut reader = Resp::new(alloc)?;
     let mut at = 0;
-    let told = reader.feed(alloc, piece, &mut at).err();
-    assert_eq!(rt; told, Some(FAULT));
-    assert_eq!(rt; at, 10);
-    let again = reader.feed(alloc, piece, &mut at).err();
-    assert_eq!(rt; again, Some(FAULT));
-    assert_eq!(rt; at, 10);
-    Ok(())
-}
-
-#[test]
-fn reads_ends_of_the_ranges(rt: HostRuntime) -> Result<(), Fail> {
-    let alloc = rt.alloc();
-    let piece = b"+a\r\n:999999999999999999\r\n:-999999999999999999\r\n+b\r\n:000\r\n:-0\r\n";
-    let mut reader = Resp::new(alloc)?;
-    let mut at = 0;
-    let last = reader.feed(alloc, piece, &mut at)?.ok_or("no put")?;
-    assert!(rt;
-        is_put(
-            &last,
-            b"a",
-            999_999_999_999_999_999,
-            -999_999_999_999_999_999
-        )
-    );
-    let zero = reader.feed(alloc, piece, &mut at)?.ok_or("no put")?;
-    assert!(rt; is_put(&zero, b"b", 0, 0));
+    let fault = Some(Refusal::BadNumber { at: 6 });
+    assert_eq!(rt; refusal_in(reader.feed(alloc, piece, &mut at))?, fault);
+    assert_eq!(rt; at, 7);
+    assert_eq!(rt; refusal_in(reader.feed(alloc, piece, &mut at))?, fault);
+    assert_eq!(rt; at, 7);
     Ok(())
 }

@@ -1,8 +1,11 @@
-//! Tests that cross crates, over a host in memory: streams told to the top call, gates opened, and runs stopped.
+//! Tests that cross crates, over a host in memory: streams and sessions told to the top call, gates opened, and runs
+//! stopped.
 #![tactic(auto)]
 
 #[cfg(test)]
 mod gates;
+#[cfg(test)]
+mod sessions;
 #[cfg(test)]
 mod stops;
 #[cfg(test)]

@@ -56,12 +56,16 @@ fn perform(alloc: Global, host: &mut MemHost, line: &str) -> Result<u8, AllocErr
     Ok(akl(alloc, words.as_slice(), host))
 }
 
-// A store that was made.
-fn store<R: Abort>(rt: &R, alloc: Global) -> Result<MemHost, Fail> {
+// A store that was made by these words.
+fn made<R: Abort>(rt: &R, alloc: Global, line: &str) -> Result<MemHost, Fail> {
     let mut host = MemHost::new(alloc, &[], &[])?;
-    let status = call(alloc, &mut host, CREATE, b"")?;
+    let status = call(alloc, &mut host, line, b"")?;
     assert_eq!(rt; status, 0);
     Ok(host)
+}
+
+fn store<R: Abort>(rt: &R, alloc: Global) -> Result<MemHost, Fail> {
+    made(rt, alloc, CREATE)
 }
 
 // A store that was made and run.
@@ -351,6 +355,94 @@ fn a_full_slot_takes_no_further_point(rt: HostRuntime) -> Result<(), Fail> {
     let host = after_run(&rt, alloc, stream.as_slice())?;
     assert_eq!(rt; host.told(1), told.as_slice());
     shows(&rt, alloc, &host, last_moment(&host), &[], rows.as_slice())
+}
+
+// 250 points of `a` take 55 + 16 * 250 bytes of the 4096. With a point more and the first of `bbbb` they are 16 and 26
+// more, and with the first of `b` 16 and 23.
+#[test]
+fn a_put_is_refused_by_the_first_cause(rt: HostRuntime) -> Result<(), Fail> {
+    let alloc = rt.alloc();
+    let mut stream = Bytes::new(alloc);
+    for time in 1..251 {
+        stream.extend(alloc, b"+a\r\n:")?;
+        stream.extend_decimal(alloc, time)?;
+        stream.extend(alloc, b"\r\n:0\r\n")?;
+    }
+    let messages: [(&[u8], &[u8]); 11] = [
+        (
+            b"+a|bbbb x\r\n+soon\r\n+x\r\n",
+            b"-ERR 27 counts differ\r\n",
+        ),
+        (
+            b"+a|bbbb x\r\n+soon\r\n*2\r\n:9223372036854775808\r\n+x\r\n",
+            b"-ERR 20 bad name\r\n",
+        ),
+        (
+            b"+a|bbbb\r\n+soon\r\n*2\r\n:9223372036854775808\r\n+x\r\n",
+            b"-ERR 29 not built\r\n",
+        ),
+        (
+            b"+a|bbbb\r\n:18446744073709551616\r\n*2\r\n:9223372036854775808\r\n+x\r\n",
+            b"-ERR 24 timestamp out of range\r\n",
+        ),
+        (
+            b"+a|bbbb\r\n:1\r\n*2\r\n:9223372036854775808\r\n+x\r\n",
+            b"-ERR 22 bad value\r\n",
+        ),
+        (
+            b"+a|bbbb\r\n:1\r\n*2\r\n:9223372036854775808\r\n:1\r\n",
+            b"-ERR 23 value out of range\r\n",
+        ),
+        (
+            b"+a|bbbb\r\n:1\r\n*2\r\n:1\r\n:1\r\n",
+            b"-ERR 26 metadata full, need 4097 room 4096\r\n",
+        ),
+        (
+            b"+a|b\r\n:1\r\n*2\r\n:1\r\n:1\r\n",
+            b"-ERR 25 late, last 250\r\n",
+        ),
+        (b"+!query\r\n$14\r\n{\"select\":\"b\"}\r\n", NO_POINT),
+        (b"+a|b\r\n:250\r\n*2\r\n:1\r\n:7\r\n", b""),
+        (
+            b"+!query\r\n$14\r\n{\"select\":\"b\"}\r\n",
+            b"$8\r\nb,250,7\n\r\n",
+        ),
+    ];
+    let mut told = Bytes::new(alloc);
+    for (message, answer) in messages {
+        stream.extend(alloc, message)?;
+        told.extend(alloc, answer)?;
+    }
+    let host = after_run(&rt, alloc, stream.as_slice())?;
+    assert_eq!(rt; host.told(1), told.as_slice());
+    Ok(())
+}
+
+#[test]
+fn decimal_scale(rt: HostRuntime) -> Result<(), Fail> {
+    let alloc = rt.alloc();
+    let stores: [(&str, &[u8], &[u8], &[u8]); 2] = [
+        (
+            "create d --volumes 2 --blocks 16 --slot 1 --scale 1",
+            b"+cpu\r\n:1\r\n+24.3\r\n+cpu\r\n:2\r\n+24.35\r\n+cpu\r\n:3\r\n+24.30\r\n+cpu\r\n:4\r\n+1e3\r\n",
+            b"-ERR 22 bad value\r\n-ERR 22 bad value\r\n",
+            b"$22\r\ncpu,1,24.3\ncpu,3,24.3\n\r\n",
+        ),
+        (
+            "create d --volumes 2 --blocks 16 --slot 1 --scale 9",
+            b"+cpu\r\n:1\r\n+9223372036.854775807\r\n+cpu\r\n:2\r\n$21\r\n-9223372036.854775809\r\n+cpu\r\n:3\r\n:-2\r\n",
+            b"-ERR 23 value out of range\r\n",
+            b"$36\r\ncpu,1,9223372036.854775807\ncpu,3,-2\n\r\n",
+        ),
+    ];
+    for (create, stream, told, rows) in stores {
+        let mut host = made(&rt, alloc, create)?;
+        let status = call(alloc, &mut host, RUN, stream)?;
+        assert_eq!(rt; status, 0);
+        assert_eq!(rt; host.told(1), told);
+        shows(&rt, alloc, &host, last_moment(&host), &[], rows)?;
+    }
+    Ok(())
 }
 
 #[test]

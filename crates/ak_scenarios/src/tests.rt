@@ -9,7 +9,7 @@ use std::process::Abort;
 use std::test::Fail;
 
 // These bytes, at most 4096, as a turn of a port.
-fn piece(alloc: Global, port: u32, bytes: &[u8]) -> Result<MemTurn, AllocError>
+pub(crate) fn piece(alloc: Global, port: u32, bytes: &[u8]) -> Result<MemTurn, AllocError>
     requires port { 1 ≤ port }
     requires some { 1 ≤ length bytes.now }
     requires most { length bytes.now ≤ 4096 }
@@ -120,74 +120,128 @@ fn rows_stand_by_order_of_first_acceptance(rt: HostRuntime) -> Result<(), Fail> 
     answers(
         &rt,
         rt.alloc(),
-        b"+cpu b\r\n:2\r\n:1\r\n+mem\r\n:1\r\n:9\r\n+cpu a\r\n:1\r\n:-2\r\n+cpu b\r\n:3\r\n:0\r\n+!query\r\n$16\r\n{\"select\":\"cpu\"}\r\n",
-        b"$31\r\ncpu b,2,1\ncpu b,3,0\ncpu a,1,-2\n\r\n",
+        b"+cpu k=b\r\n:2\r\n:1\r\n+mem\r\n:1\r\n:9\r\n+cpu k=a\r\n:1\r\n:-2\r\n+cpu k=b\r\n:3\r\n:0\r\n+!query\r\n$16\r\n{\"select\":\"cpu\"}\r\n",
+        b"$37\r\ncpu k=b,2,1\ncpu k=b,3,0\ncpu k=a,1,-2\n\r\n",
     )
 }
 
 #[test]
-fn cut_session(rt: HostRuntime) -> Result<(), Fail> {
+fn tags_in_any_order(rt: HostRuntime) -> Result<(), Fail> {
     answers(
         &rt,
         rt.alloc(),
-        b"+cpu\r\n:1\r\n",
-        b"-ERR 16 input ended inside a message\r\n",
+        b"+cpu region=eu  host=a\r\n:1\r\n:1\r\n+cpu host=a region=eu\r\n:2\r\n:2\r\n+!query\r\n$16\r\n{\"select\":\"cpu\"}\r\n",
+        b"$50\r\ncpu host=a region=eu,1,1\ncpu host=a region=eu,2,2\n\r\n",
     )
 }
 
 #[test]
-fn an_unknown_message_is_refused_once(rt: HostRuntime) -> Result<(), Fail> {
+fn value_range(rt: HostRuntime) -> Result<(), Fail> {
     answers(
         &rt,
         rt.alloc(),
-        b"+cpu\r\n:1\r\n:1\r\n+!flusk\r\n+!query\r\n$16\r\n{\"select\":\"cpu\"}\r\n",
-        b"-ERR 29 not built\r\n",
+        b"+cpu\r\n:1\r\n:9223372036854775808\r\n+cpu\r\n:2\r\n:-9223372036854775808\r\n+!query\r\n$16\r\n{\"select\":\"cpu\"}\r\n",
+        b"-ERR 23 value out of range\r\n$27\r\ncpu,2,-9223372036854775808\n\r\n",
+    )
+}
+
+// The last write has as many values as names, and all of them are right.
+#[test]
+fn refused_compound_write(rt: HostRuntime) -> Result<(), Fail> {
+    answers(
+        &rt,
+        rt.alloc(),
+        b"+a|b host=x\r\n:1\r\n*2\r\n:1\r\n+1.5\r\n+!query\r\n$14\r\n{\"select\":\"a\"}\r\n+!query\r\n$14\r\n{\"select\":\"b\"}\r\n+a|b host=x\r\n:1\r\n*3\r\n:1\r\n:2\r\n:3\r\n+a|b host=x\r\n:1\r\n*2\r\n:1\r\n+2.0\r\n+!query\r\n$14\r\n{\"select\":\"b\"}\r\n",
+        b"-ERR 22 bad value\r\n$0\r\n\r\n$0\r\n\r\n-ERR 27 counts differ\r\n$13\r\nb host=x,1,2\n\r\n",
     )
 }
 
 #[test]
-fn an_end_opens_the_next_session(rt: HostRuntime) -> Result<(), Fail> {
-    let alloc = rt.alloc();
-    let turns = [
-        piece(alloc, 1, b"+a\r\n:1\r\n")?,
-        piece(alloc, 2, b"+a\r\n:1\r\n:1\r\n")?,
-        MemTurn::End { port: 2 },
-        MemTurn::Idle,
-        MemTurn::End { port: 1 },
-        MemTurn::End { port: 1 },
-        piece(
-            alloc,
-            1,
-            b"+a\r\n:1\r\n:2\r\n+!query\r\n$14\r\n{\"select\":\"a\"}\r\n",
-        )?,
+fn the_first_late_name_is_told(rt: HostRuntime) -> Result<(), Fail> {
+    answers(
+        &rt,
+        rt.alloc(),
+        b"+a\r\n:5\r\n:1\r\n+b\r\n:9\r\n:1\r\n+b|a\r\n:4\r\n*2\r\n:1\r\n:1\r\n+a|b\r\n:4\r\n*2\r\n:1\r\n:1\r\n+a|b\r\n:7\r\n*2\r\n:1\r\n:1\r\n+!query\r\n$14\r\n{\"select\":\"a\"}\r\n",
+        b"-ERR 25 late, last 9\r\n-ERR 25 late, last 5\r\n-ERR 25 late, last 9\r\n$6\r\na,5,1\n\r\n",
+    )
+}
+
+#[test]
+fn each_stream_fault(rt: HostRuntime) -> Result<(), Fail> {
+    let faults: [(&[u8], &[u8]); 19] = [
+        (b"?", b"-ERR 10 bad type byte at 0\r\n"),
+        (b"+a\r\n:1\r\n:1\r\n?", b"-ERR 10 bad type byte at 12\r\n"),
+        (b"+a\r\n:1x", b"-ERR 11 bad number at 6\r\n"),
+        (b"+a\r\n:-\r", b"-ERR 11 bad number at 6\r\n"),
+        (b"+a\r\n:1+", b"-ERR 11 bad number at 6\r\n"),
+        (b"$\r", b"-ERR 11 bad number at 1\r\n"),
+        (b"$-", b"-ERR 11 bad number at 1\r\n"),
+        (b"+a\rb", b"-ERR 13 bad line end at 3\r\n"),
+        (b"+a\n", b"-ERR 13 bad line end at 2\r\n"),
+        (b"+a\r\n:\n", b"-ERR 13 bad line end at 5\r\n"),
+        (b"\n", b"-ERR 13 bad line end at 0\r\n"),
+        (b"$1\r\nab", b"-ERR 13 bad line end at 5\r\n"),
+        (b"$1\r\na\rb", b"-ERR 13 bad line end at 6\r\n"),
+        (b"$65537", b"-ERR 14 long bulk at 5\r\n"),
+        (b":5\r\n", b"-ERR 15 wrong shape at 0\r\n"),
+        (b"+a\r\n*1", b"-ERR 15 wrong shape at 4\r\n"),
+        (b"+!query\r\n:1", b"-ERR 15 wrong shape at 9\r\n"),
+        (b"+a\r\n+1\r\n*65", b"-ERR 15 wrong shape at 10\r\n"),
+        (b"+a\r\n+1\r\n*1\r\n$", b"-ERR 15 wrong shape at 12\r\n"),
     ];
-    let ended = call(alloc, &[], &turns, &[])?;
-    assert_eq!(rt;
-        ended.told.as_slice(),
-        b"-ERR 16 input ended inside a message\r\n$6\r\na,1,2\n\r\n".as_slice()
-    );
-    assert_eq!(rt; ended.status, 0);
+    for (stream, told) in faults {
+        answers(&rt, rt.alloc(), stream, told)?;
+    }
     Ok(())
 }
 
 #[test]
-fn other_ports_are_refused(rt: HostRuntime) -> Result<(), Fail> {
-    let alloc = rt.alloc();
-    let turns = [
-        piece(alloc, 2, b"+a")?,
-        piece(alloc, 7, b"x")?,
-        piece(alloc, 2, b"y")?,
-        MemTurn::End { port: 2 },
+fn the_greatest_lengths_are_no_fault(rt: HostRuntime) -> Result<(), Fail> {
+    let streams: [(&[u8], &[u8]); 3] = [
+        (b"$65536\r\n", b"-ERR 16 input ended inside a message\r\n"),
+        (
+            b"+a\r\n:1\r\n*64\r\n",
+            b"-ERR 16 input ended inside a message\r\n",
+        ),
+        (b"+a\r\n:1\r\n*0\r\n", b"-ERR 27 counts differ\r\n"),
     ];
-    let mut host = MemHost::new(alloc, &turns, &[])?;
-    assert_eq!(rt; akl(alloc, &[], &mut host), 0);
-    assert_eq!(rt;
-        host.told(2),
-        b"-ERR 29 not built\r\n-ERR 29 not built\r\n".as_slice()
-    );
-    assert_eq!(rt; host.told(7), b"-ERR 29 not built\r\n".as_slice());
-    assert_eq!(rt; host.told(1), b"".as_slice());
+    for (stream, told) in streams {
+        answers(&rt, rt.alloc(), stream, told)?;
+    }
     Ok(())
+}
+
+// A line of 4096 bytes is none, and no name.
+#[test]
+fn a_long_line_is_a_fault(rt: HostRuntime) -> Result<(), Fail> {
+    let alloc = rt.alloc();
+    let mut stream = Bytes::new(alloc);
+    stream.push(alloc, b'+')?;
+    for _ in 0..4096 {
+        stream.push(alloc, b'a')?;
+    }
+    let mut short = Bytes::new(alloc);
+    short.extend(alloc, stream.as_slice())?;
+    short.extend(alloc, b"\r\n:1\r\n:1\r\n")?;
+    answers(&rt, alloc, short.as_slice(), b"-ERR 20 bad name\r\n")?;
+    stream.push(alloc, b'a')?;
+    answers(
+        &rt,
+        alloc,
+        stream.as_slice(),
+        b"-ERR 12 long line at 4097\r\n",
+    )
+}
+
+// Queries of other shapes are not built.
+#[test]
+fn refused_queries(rt: HostRuntime) -> Result<(), Fail> {
+    answers(
+        &rt,
+        rt.alloc(),
+        b"+cpu\r\n:1\r\n:1\r\n+!stop\r\n+!query\r\n+{\r\n+!query\r\n$16\r\n{\"select\":\"cpu\"}\r\n",
+        b"-ERR 28 unknown control\r\n-ERR 29 not built\r\n$8\r\ncpu,1,1\n\r\n",
+    )
 }
 
 #[test]

@@ -10,7 +10,7 @@ use Rattle.ak_view.specs.Views.{View}
 use Rattle.ak_top.specs.Commands.{IsRun, AreFree, IsMaking, LeavesBefore, scratch_limits}
 use Rattle.ak_top.specs.Ends.{IsEnd, IsScratchStop}
 use Rattle.ak_top.specs.Kept.{KeepsFrom}
-use Rattle.ak_top.specs.Run.{world_of}
+use Rattle.ak_run.specs.Run.{world_of}
 use Rattle.ak_top.specs.Told.{IsQuiet}
 use Rattle.ak_top.proofs.Opening.{free_none}
 use Rattle.ak_top.proofs.Runs.{none_since, answered_all}

@@ -21,12 +21,12 @@ use Rattle.ak_words.specs.declared.job.Command.TheVariants.{Run, Scratch}
 use Rattle.ak_top.specs.Calls.{Told, IsSilent, HasTold}
 use Rattle.ak_top.specs.Commands.{IsRun, Makes, Serves, AreFree, IsMaking}
 use Rattle.ak_top.specs.Ends.{IsEnd, OnConsole, TellsLine, EndsBy, IsOneOf, IsOwn, IsMissing, IsThere, IsServingOrThere, IsExists, HasServed, IsFinished}
-use Rattle.ak_top.specs.Keeping.{Confirms}
+use Rattle.ak_run.specs.Keeping.{Confirms}
 use Rattle.ak_top.specs.Kept.{IsKept, KeepsFrom}
-use Rattle.ak_top.specs.Run.{RunsFrom, world_of}
+use Rattle.ak_run.specs.Run.{RunsFrom, world_of}
 use Rattle.ak_top.specs.Told.{Begins, Since, IsAnswered, IsComplete, NoneDone, EndsDone, AreSpent, IsWorn, IsQuiet, line_of, IsTold}
 use Rattle.ak_top.proofs.Commands.{quiet_starts}
-use Rattle.ak_top.proofs.Pieces.{told_to-append}
+use Rattle.ak_top.proofs.Tellings.{told_to-append}
 use Rattle.ak_top.proofs.Runs.{none_since, same_since, fresh_run}
 
 -- ---- Before any turn

@@ -13,6 +13,7 @@ use Rattle.ak_view.specs.Payload.{AreStored}
 use Rattle.ak_base.specs.declared.stop.Stop.{Stop}
 use Rattle.ak_base.specs.declared.stop.Stop.TheVariants.{Usage, Damaged, Disk, Port, Memory, Budget, Worn, NoStore, Exists}
 use Rattle.ak_view.specs.Stops.{IsNoStore, IsTaken, IsDamagedAt, IsOpenStop}
+use Rattle.ak_view.proofs.Apart.{none_apart}
 use Rattle.ak_top.specs.Commands.{IsMaking}
 use Rattle.ak_top.specs.Ends.{IsServing}
 use Rattle.ak_view.specs.Views.{View, StandsFor, HasNewest, IsSound, IsRecord, frame_for, first_view}
@@ -100,7 +101,7 @@ free_none disk free = elim (cases_lt (length (file_at disk 0)) 2) [
     closed half some false is = refl
 
 pub stored_first : (limits : Limits) → AreLimits limits → AreStored limits []
-stored_first limits are = record { limits_are = are; few = omega arith; each = tt }
+stored_first limits are = record { limits_are = are; few = omega arith; each = tt; apart = none_apart }
 
 pub making : (limits : Limits) → AreLimits limits → (disk : Files) → IsNoStore disk ⊎ HasNewest limits.slot (Some (frame_for (first_view limits))) disk → IsMaking limits disk
 making limits are disk (inl none) = inl none

@@ -1,5 +1,5 @@
 -- Runs of turns, what stands told in them, and what a stop leaves.
-use Rattle.std.proofs.Common.{◌≡◌, ◌⊎◌, inl, inr, ℕ, ◌+◌, ◌-◌, ◌^◌, ◌≤◌, Bool, true, false, List, [], ◌∷◌, ◌++◌, length, take, drop, take-append-drop, refl, sym, ◌∙◌, ap, subst, arith, append_assoc, length-append}
+use Rattle.std.proofs.Common.{◌≡◌, ◌⊎◌, inl, inr, ℕ, ◌+◌, ◌-◌, ◌^◌, ◌≤◌, false, List, [], ◌∷◌, ◌++◌, length, take, drop, take-append-drop, refl, sym, ◌∙◌, ap, subst, arith, append_assoc, length-append}
 use Rattle.std.specs.List.{AllByRecursion}
 use Rattle.std.proofs.lemmas.List.{append-nil, take_at}
 use Rattle.ak_base.proofs.Basics.{not_both}
@@ -12,21 +12,20 @@ use Rattle.ak_top.specs.declared.node.Node.{Node}
 use Rattle.ak_top.specs.declared.node.Went.{Went}
 use Rattle.ak_top.specs.declared.node.Went.TheVariants.{More}
 use Rattle.ak_top.specs.declared.node.Went.TheVariants as went
-use Rattle.ak_top.specs.Contents.{views_of}
-use Rattle.ak_top.specs.Keeping.{Confirms}
+use Rattle.ak_run.specs.Contents.{views_of}
+use Rattle.ak_run.specs.Keeping.{Confirms}
 use Rattle.ak_top.specs.Kept.{IsKept, KeepsLast}
-use Rattle.ak_top.specs.Replies.{Reply, bytes_at}
-use Rattle.ak_top.specs.Run.{World, world_of, Gives, RunsFrom, AreAnswers}
+use Rattle.ak_run.specs.Replies.{Reply, bytes_at}
+use Rattle.ak_run.specs.Run.{World, world_of, Gives, RunsFrom, AreAnswers}
 use Rattle.ak_top.specs.Standing.{Stands, InTurn, LeavesInTurn, AfterTurn, WearsIn, went_of}
 use Rattle.ak_top.specs.Told.{Begins, Since, IsAnswered, IsComplete, IsDone, NoneDone, EndsDone, AreSpent, IsWorn, IsQuiet}
-use Rattle.ak_top.proofs.Gives.{turn_rises, turn_orderly, turn_confirms}
-use Rattle.ak_top.proofs.Growing.{bytes_at-append, all_append, confirms_within, within_more, last_in, Orderly, orderly_opened, orderly_in}
-use Rattle.ak_top.proofs.Pieces.{told_to-append}
-use Rattle.ak_top.proofs.Prefixes.{confirms_all, confirms_front}
+use Rattle.ak_run.proofs.Turns.{turn_rises, turn_orderly, turn_confirms}
+use Rattle.ak_run.proofs.Growing.{bytes_at-append, all_append, confirms_within, within_more, last_in, Orderly, orderly_opened, orderly_in}
+use Rattle.ak_top.proofs.Tellings.{told_to-append}
+use Rattle.ak_run.proofs.Prefixes.{confirms_all, confirms_front}
 use Rattle.ak_top.proofs.Sound.{stands_sound}
-use Rattle.ak_top.proofs.Steps.{refl_le}
-use Rattle.ak_top.proofs.Turns.{begins_all}
-use Rattle.ak_top.proofs.Unique.{one_run}
+use Rattle.ak_top.proofs.Tellings.{begins_all}
+use Rattle.ak_run.proofs.Turns.{one_run}
 
 -- ---- Runs one after another
 
@@ -88,8 +87,8 @@ running_starts view mark node host stands = record {
   stands = stands;
   orderly = orderly_opened view;
   confirms = tt;
-  no_older = refl_le view.number;
-  recent = refl_le view.number;
+  no_older = omega arith;
+  recent = omega arith;
   count_is = refl;
   none_done = tt;
 }

@@ -11,8 +11,8 @@ use Rattle.ak_view.specs.declared.series.Series.{Series}
 use Rattle.ak_view.specs.Payload.{AreStored}
 use Rattle.ak_view.specs.Views.{View, frame_for, HasNewest, Rests, StandsFor}
 use Rattle.ak_view.specs.Stops.{IsAt}
-use Rattle.ak_top.specs.declared.store.Store.{Store}
-use Rattle.ak_top.specs.Contents.{Content, views_of, is_last, next_view, after_view}
+use Rattle.ak_run.specs.declared.store.Store.{Store}
+use Rattle.ak_run.specs.Contents.{Content, views_of, is_last, next_view, after_view}
 use Rattle.ak_top.specs.Standing.{Holds}
 
 pub not_last : (c : Content) (n : ℕ) → n ≡ c.last.number → n < 2 ^ 64 - 1 → is_last c ≡ false

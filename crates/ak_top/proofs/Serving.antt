@@ -1,5 +1,5 @@
 -- A store that is opened, or made, and then served.
-use Rattle.std.proofs.Common.{◌≡◌, inl, inr, ℕ, ◌+◌, ◌≤◌, [], Option, Some, None, Result, refl, sym, ◌∙◌, ap, subst, arith}
+use Rattle.std.proofs.Common.{◌≡◌, inl, inr, ℕ, ◌+◌, ◌≤◌, List, [], Some, Result, refl, sym, ◌∙◌, ap, subst, arith}
 use Rattle.ak_base.specs.declared.stop.Stop.{Stop}
 use Rattle.ak_base.specs.declared.stop.Stop.TheVariants.{Usage, Damaged, Disk, Port, Memory, Budget, Worn, NoStore, Exists}
 use Rattle.ak_host.specs.Files.{Files}
@@ -10,13 +10,13 @@ use Rattle.ak_base.specs.declared.limits.Limits.{Limits}
 use Rattle.ak_base.specs.Ranges.{AreLimits}
 use Rattle.ak_view.specs.Views.{View, Rests, frame_for, first_view}
 use Rattle.ak_top.specs.declared.node.Node.{Node}
-use Rattle.ak_top.specs.declared.node.Session.{Session}
+use Rattle.ak_top.specs.declared.session.Session.{Session}
 use Rattle.ak_top.specs.Commands.{AreFree, IsMaking, scratch_limits}
 use Rattle.ak_top.specs.Calls.{IsServeStop}
 use Rattle.ak_top.specs.Ends.{HasServed, IsRunStop, IsScratchStop}
 use Rattle.ak_top.specs.Kept.{IsKept, KeepsFrom}
-use Rattle.ak_top.specs.Run.{world_of}
-use Rattle.ak_top.specs.Standing.{IsSession, Stands}
+use Rattle.ak_run.specs.Run.{world_of}
+use Rattle.ak_top.specs.Standing.{AreSessions, Stands}
 use Rattle.ak_top.specs.Told.{IsQuiet}
 use Rattle.ak_top.proofs.Commands.{quiet_starts, quiet_passes}
 use Rattle.ak_top.proofs.Opening.{free_none, stored_first}
@@ -102,9 +102,9 @@ making_still limits old new run made = record {
 }
 
 -- the node of a store that was made
-pub first_stands : (node : Node) (host : HostState) → node.keeper.store.limits ≡ scratch_limits → node.keeper.store.series.items ≡ [] → node.keeper.gate.number ≡ 1 → node.session ≡ None
+pub first_stands : (node : Node) (host : HostState) → node.keeper.store.limits ≡ scratch_limits → node.keeper.store.series.items ≡ [] → node.keeper.gate.number ≡ 1 → node.sessions.items ≡ []
     → AreLimits scratch_limits → Rests 16 (Some (frame_for (first_view scratch_limits))) host → Stands node (world_of (first_view scratch_limits)) host
-first_stands node host limits series number session are rests = record {
+first_stands node host limits series number sessions are rests = record {
   holds = record {
     limits_are = limits;
     series_are = series;
@@ -114,7 +114,7 @@ first_stands node host limits series number session are rests = record {
     saved = stored_first scratch_limits are;
     left = λ disk left. record { stored = stored_first scratch_limits are; has = rests disk left };
   };
-  session = subst (λ (o : Option Session). IsSession o None) (sym session) tt;
+  sessions = subst (λ (l : List Session). AreSessions l []) (sym sessions) tt;
 }
 
 pub are_scratch : AreLimits scratch_limits

@@ -1,9 +1,7 @@
 -- What one answer of the reader does to how far a session has come.
-use Rattle.std.proofs.Common.{◌≡◌, ◌⊎◌, inl, inr, ℕ, ◌+◌, ◌*◌, ◌<◌, ◌≤◌, ◌^◌, slice_index, Bool, true, false, if◌then◌else◌, List, [], ◌∷◌, ◌++◌, length, take, drop, take-append-drop, Option, Some, None, Result, Ok, Err, IfOk, OnOk, IsErrAnd, refl, sym, ◌∙◌, ap, subst, append_assoc, arith}
-use Rattle.std.specs.List.{AllByRecursion}
+use Rattle.std.proofs.Common.{◌≡◌, ◌⊎◌, inl, inr, ℕ, ℤ, ◌+◌, ◌*◌, ◌<◌, ◌≤◌, slice_index, true, false, List, [], ◌∷◌, ◌++◌, length, take, drop, take-append-drop, Option, Some, None, Result, Ok, Err, IfOk, OnOk, IsErrAnd, refl, sym, ◌∙◌, ap, subst, subst₂, append_assoc, arith}
 use Rattle.std.proofs.lemmas.List.{take_all, append-nil}
 use Rattle.ak_base.specs.declared.refusal.Refusal.{Refusal}
-use Rattle.ak_base.specs.declared.refusal.Refusal.TheVariants.{NotBuilt}
 use Rattle.ak_base.specs.declared.stop.Stop.{Stop}
 use Rattle.ak_gate.specs.Fits.{Knows}
 use Rattle.ak_gate.specs.Fits.{Stands as GateStands}
@@ -11,30 +9,33 @@ use Rattle.ak_host.specs.Files.{Files, file_at}
 use Rattle.ak_host.specs.Marks.{Mark}
 use Rattle.ak_host.specs.Moments.{HostState, LeavesNow, Passes, PortPasses}
 use Rattle.ak_host.proofs.Passing.{passes_weaker, ports_leave}
-use Rattle.ak_base.specs.Points.{IsPoint}
-use Rattle.ak_base.specs.declared.point.Point.{Point}
 use Rattle.ak_resp.specs.declared.message.Message.{Message}
-use Rattle.ak_resp.specs.declared.message.Message.TheVariants.{Put}
 use Rattle.ak_resp.specs.declared.message.RespError.{RespError}
 use Rattle.ak_resp.specs.declared.message.RespError.TheVariants.{Refused}
 use Rattle.ak_resp.specs.declared.resp.Resp.{Resp}
-use Rattle.ak_resp.specs.Standing.{StandsFor, StandsAfter, TellsFault, OnNone, is_faulted}
+use Rattle.ak_resp.specs.Standing.{StandsFor, StandsAfter, TellsFault, OnNone, refusal_of, is_refused, is_faulted}
 use Rattle.ak_resp.proofs.Readers.{fault_stays}
+use Rattle.ak_view.specs.Payload.{AreStored}
+use Rattle.ak_run.specs.declared.asked.Asked.{Asked}
+use Rattle.ak_run.specs.declared.asked.Asked.TheVariants.{Points}
+use Rattle.ak_run.specs.declared.store.Store.{Store}
+use Rattle.ak_run.specs.Asking.{Asks, AllAsk}
+use Rattle.ak_run.specs.Contents.{Content, views_of, after, after_all}
+use Rattle.ak_run.specs.Keeping.{IsIn}
+use Rattle.ak_run.specs.Points.{after_points}
+use Rattle.ak_run.specs.Replies.{reply_to, replies_to, refusal_reply, bytes_at}
+use Rattle.ak_run.proofs.EveryAsking.{every_all}
+use Rattle.ak_run.proofs.Growing.{after_all-append, last_in, stays_all, rises, sound_after, limits_stay}
+use Rattle.ak_run.proofs.OneAsking.{one_asking}
+use Rattle.ak_run.proofs.Prefixes.{confirms_all}
+use Rattle.ak_run.proofs.Turns.{gives_confirms, gives_rises}
 use Rattle.ak_top.specs.declared.keeper.Keeper.{Keeper}
-use Rattle.ak_top.specs.declared.node.Session.{Session}
-use Rattle.ak_top.specs.declared.store.Store.{Store}
-use Rattle.ak_top.specs.Store.{after_put}
-use Rattle.ak_top.proofs.Stored.{stored_after}
+use Rattle.ak_top.specs.declared.session.Session.{Session}
 use Rattle.ak_top.specs.Calls.{Told, OnStop}
-use Rattle.ak_top.specs.Contents.{Content, views_of, after, after_all}
-use Rattle.ak_top.specs.Keeping.{IsIn}
-use Rattle.ak_top.specs.Pieces.{IsAllowed, InAnswer, LeavesInAnswer, Begun, ReadsOn, InPiece, LeavesInPiece, AfterPiece, WearsPiece}
-use Rattle.ak_top.specs.Replies.{Reply, reply_to, replies_to, refusal_reply, bytes_at}
-use Rattle.ak_top.specs.Run.{PieceGives, to}
+use Rattle.ak_top.specs.Pieces.{InAnswer, LeavesInAnswer, Begun, ReadsOn, InPiece, LeavesInPiece, AfterPiece, WearsPiece}
 use Rattle.ak_top.specs.Standing.{IsReady, Holds}
-use Rattle.ak_top.proofs.Growing.{after_all-append, last_in, stays_all, rises, rises_all, sound_after, confirms_within, confirms_all_within, all_append}
-use Rattle.ak_top.proofs.Pieces.{allowed, Heard, heard_all, Whole, whole_piece, in_whole, leaves_whole, wears_whole, reads_message, read_all, read_fault, told_more, answered_more}
-use Rattle.ak_top.proofs.Prefixes.{confirms_all}
+use Rattle.ak_top.proofs.Pieces.{Heard, heard_all, Whole, whole_piece, in_whole, leaves_whole, wears_whole, reads_message, read_all, read_fault, asks_more, answered_more}
+use Rattle.ak_top.proofs.Tellings.{told_more, begins_all}
 
 abbrev Answer : Type 0
 Answer = Result (Option Message) RespError
@@ -44,43 +45,45 @@ abbrev Reads : Resp → Resp → List ℕ → List ℕ → Answer → Type 0
 Reads old new a b result = (row : List ℕ) (messages : List Message) → StandsFor old (row ++ a) messages → StandsAfter new (row ++ b) messages result
 
 abbrev Kept : Resp → Resp → ℕ → ℕ → Answer → Type 0
-Kept old new a b result = is_faulted old ≡ true → (result ≡ Err (Refused NotBuilt)) × (new ≡ old) × (b ≡ a)
+Kept old new a b result = (f : Refusal) → refusal_of old ≡ Some f → (result ≡ Err (Refused f)) × (new ≡ old) × (b ≡ a)
 
-not_true : (b : Bool) → (b ≡ true → ⊥) → b ≡ false
-not_true true n = absurd (n refl)
-not_true false n = refl
+some_refusal : (o : Option Refusal) → is_refused o ≡ true → (f : Refusal) × (o ≡ Some f)
+some_refusal (Some f) is = (f, refl)
+some_refusal None is = cc
+
+not_refused : (o : Option Refusal) → ((f : Refusal) → o ≡ Some f → ⊥) → is_refused o ≡ false
+not_refused None none = refl
+not_refused (Some f) none = absurd (none f refl)
 
 pub was_sound : {old new : Resp} {a b : ℕ} (o : Option Message) → Kept old new a b (Ok o) → is_faulted old ≡ false
-was_sound {old} o kept = not_true (is_faulted old) (λ f. let k = (kept f).0 in cc)
+was_sound {old} o kept = not_refused (refusal_of old) (λ f is. let k = (kept f is).0 in cc)
 
 pub to_whole : (stream piece : List ℕ) (k : ℕ) → (stream ++ take k piece) ++ drop k piece ≡ stream ++ piece
 to_whole stream piece k = append_assoc stream (take k piece) (drop k piece) ∙ ap (λ (l : List ℕ). stream ++ l) (take-append-drop k piece)
 
--- ---- What a piece gives
+-- ---- What a message asks for
 
-pub gives_confirms : {content next : Content} {stream bytes : List ℕ} {replies : List Reply} → PieceGives content stream bytes next replies → AllByRecursion (confirms_within next.last.number) replies
-gives_confirms {content} {next} {stream} {bytes} {replies} g =
-    subst (AllByRecursion (confirms_within next.last.number)) (sym g.replies_are)
-    (all_append (confirms_within next.last.number) (replies_to content g.acting) _
-    (subst (λ (c : Content). AllByRecursion (confirms_within c.last.number) (replies_to content g.acting)) (sym g.next_is) (confirms_all_within content g.acting))
-    (fault_confirms _))
+pub some_asking : (scale : ℕ) (m : Message) → (a : Asked) × Asks scale m a
+some_asking scale m = by (every_all scale (m ∷ []))
   where
-    fault_confirms : (b : Bool) → AllByRecursion (confirms_within next.last.number) (if b then to 1 (refusal_reply NotBuilt) else [])
-    fault_confirms true = (omega arith, tt)
-    fault_confirms false = tt
+    by : (asked : List Asked) × AllAsk scale (m ∷ []) asked → (a : Asked) × Asks scale m a
+    by (asked, (first, others, is, asks, rest)) = (first, asks)
 
-pub gives_rises : {content next : Content} {stream bytes : List ℕ} {replies : List Reply} → PieceGives content stream bytes next replies → content.last.number ≤ next.last.number
-gives_rises {content} {next} g = subst (λ (c : Content). content.last.number ≤ c.last.number) (sym g.next_is) (rises_all content g.acting)
+-- what it asks for in the scale of the store is what it asks for in that of the content
+pub asked_same : (content : Content) (keeper : Keeper) (host : HostState) (m : Message) (got asked : Asked) → Holds content keeper host → Asks keeper.store.limits.scale m got → Asks content.last.limits.scale m asked → got ≡ asked
+asked_same content keeper host m got asked holds g h = one_asking content.last.limits.scale m got asked (subst (λ l. Asks l.scale m got) holds.limits_are g) h
+
+-- ---- What a piece gives
 
 -- all that a piece is answered was told, and a stop leaves the last view
 pub after_in_piece : {begun : Begun} {bytes : List ℕ} {keeper : Keeper} {session : Session} {mark : Mark} {host : HostState} → AfterPiece begun bytes keeper session mark host → InPiece begun bytes mark
-after_in_piece after = record {
+after_in_piece {begun} after = record {
   next = after.next;
   replies = after.replies;
   gives = after.gives;
-  part = bytes_at 1 after.replies;
+  part = bytes_at begun.port after.replies;
   told = after.told;
-  begins = record { rest = []; is = sym (append-nil (bytes_at 1 after.replies)) };
+  begins = begins_all (bytes_at begun.port after.replies);
 }
 
 pub after_leaves_piece : {begun : Begun} {bytes : List ℕ} {keeper : Keeper} {session : Session} {mark : Mark} {host : HostState} (after : AfterPiece begun bytes keeper session mark host) (disk : Files)
@@ -90,16 +93,16 @@ after_leaves_piece {begun} {bytes} after disk left = record {
     next = after.next;
     replies = after.replies;
     gives = after.gives;
-    part = bytes_at 1 after.replies;
+    part = bytes_at begun.port after.replies;
     told = after.told;
-    begins = record { rest = []; is = sym (append-nil (bytes_at 1 after.replies)) };
+    begins = begins_all (bytes_at begun.port after.replies);
   };
   left = record {
     view = after.next.last;
     stands = after.holds.left disk left;
     taken = last_in after.next;
     recent = gives_rises after.gives;
-    confirmed = λ port. confirms_all port _ after.next.last.number after.replies (gives_confirms after.gives);
+    confirmed = λ at. confirms_all at _ after.next.last.number after.replies (gives_confirms after.gives);
   };
 }
 
@@ -119,65 +122,97 @@ pub on_stop_weaker : {T P Q : Type 0} (is : Stop → Type 0) (r : Result T Stop)
 on_stop_weaker is (Ok v) to_q h = tt
 on_stop_weaker is (Err s) to_q h = λ stop. to_q (h stop)
 
+-- what a message of the piece asks for
+abbrev pub asked_of : Begun → Message → Asked
+asked_of begun m = (some_asking begun.content.last.limits.scale m).0
+
 module _ (begun : Begun) (piece : List ℕ) (keeper : Keeper) (session : Session) (k j : ℕ) (before : Mark) (old : HostState) (at : ReadsOn begun keeper session (begun.stream ++ take k piece) before old) (new : Resp) where
   -- what the store held as the message was read
   abbrev pub held : Content
-  held = after_all begun.content at.acting
+  held = after_all begun.content at.asked
 
-  told_here : (mark : Mark) → mark ≡ before → Told begun.mark mark 1 (bytes_at 1 (replies_to begun.content at.acting))
-  told_here mark same = subst (λ (x : Mark). Told begun.mark x 1 (bytes_at 1 (replies_to begun.content at.acting))) (sym same) at.told
+  -- all that was answered so far
+  abbrev answered : List ℕ
+  answered = bytes_at begun.port (replies_to begun.port begun.content at.asked)
+
+  told_here : (mark : Mark) → mark ≡ before → Told begun.mark mark begun.port answered
+  told_here mark same = subst (λ (x : Mark). Told begun.mark x begun.port answered) (sym same) at.told
+
+  -- what is told at the port of the session is told at that of the piece
+  told_at : (mark : Mark) (bytes : List ℕ) → Told before mark session.port bytes → Told before mark begun.port bytes
+  told_at mark bytes told = subst (λ (p : ℕ). Told before mark p bytes) at.port told
+
+  pub asks_held : (m : Message) → Asks held.last.limits.scale m (asked_of begun m)
+  asks_held m = subst (λ l. Asks l.scale m (asked_of begun m)) (sym (limits_stay begun.content at.asked)) (some_asking begun.content.last.limits.scale m).1
 
   module _ (m : Message) (o : Option Message) (is : o ≡ Some m) (reads : Reads session.reader new (take k piece) (take j piece) (Ok o)) where
+    abbrev asked_now : Asked
+    asked_now = asked_of begun m
+
+    asks_now : Asks begun.content.last.limits.scale m asked_now
+    asks_now = (some_asking begun.content.last.limits.scale m).1
+
     next_stands : (ms : List Message) → StandsFor session.reader (begun.stream ++ take k piece) ms → StandsFor new (begun.stream ++ take j piece) (ms ++ m ∷ [])
     next_stands ms s = subst (λ x. StandsAfter new (begun.stream ++ take j piece) ms (Ok x)) is (reads begun.stream ms s)
 
-    pub is_allowed : IsAllowed m
-    is_allowed = allowed (begun.stream ++ take j piece) (begun.messages ++ at.acting) m new (next_stands (begun.messages ++ at.acting) at.stands)
-
     -- a message was read, and answered
     pub after_message : Kept session.reader new k j (Ok o) → TellsFault new (Ok o)
-        → (next : Keeper) (after_mark : Mark) (after_host : HostState) → Holds (after held m) next after_host → Told before after_mark 1 (reply_to held m).bytes
+        → (next : Keeper) (after_mark : Mark) (after_host : HostState) → Holds (after held asked_now) next after_host → Told before after_mark session.port (reply_to session.port held asked_now).bytes
         → ReadsOn begun next (record session { reader = new }) (begun.stream ++ take j piece) after_mark after_host
-    after_message kept fault next after_mark after_host holds told = reads_message m at next_stands (was_sound o kept) fault refl holds told
+    after_message kept fault next after_mark after_host holds told =
+        reads_message m asked_now at asks_now next_stands (was_sound o kept) fault refl refl holds (subst (λ (p : ℕ). Told before after_mark p (reply_to p held asked_now).bytes) at.port told)
 
-    heard : Heard begun new (begun.stream ++ take j piece) at.acting (m ∷ []) before
-    heard = record { stands = subst (StandsFor new (begun.stream ++ take j piece)) (append_assoc begun.messages at.acting (m ∷ [])) (next_stands (begun.messages ++ at.acting) at.stands); told = at.told }
+    heard : Heard begun new (begun.stream ++ take j piece) at.asked (asked_now ∷ []) before
+    heard = record {
+      acting = at.acting ++ m ∷ [];
+      asks = asks_more begun.content.last.limits.scale at.acting m at.asked asked_now at.asks asks_now;
+      stands = subst (StandsFor new (begun.stream ++ take j piece)) (append_assoc begun.messages at.acting (m ∷ [])) (next_stands (begun.messages ++ at.acting) at.stands);
+      told = at.told;
+    }
 
-    whole : Whole begun piece at.acting (m ∷ [])
+    whole : Whole begun piece at.asked (asked_now ∷ [])
     whole = whole_piece begun piece (drop j piece) (to_whole begun.stream piece j) heard
 
     module _ (kept : Kept session.reader new k j (Ok o)) (fault : TellsFault new (Ok o)) where
       -- the answer was told
-      told_all : (mark : Mark) → Told before mark 1 (reply_to held m).bytes → Told begun.mark mark 1 (bytes_at 1 (replies_to begun.content (at.acting ++ m ∷ [])))
-      told_all mark told = subst (λ b. Told begun.mark mark 1 b) (answered_more begun.content at.acting m) (told_more at.told told)
+      told_all : (mark : Mark) → Told before mark begun.port (reply_to begun.port held asked_now).bytes → Told begun.mark mark begun.port (bytes_at begun.port (replies_to begun.port begun.content (at.asked ++ asked_now ∷ [])))
+      told_all mark told = subst (λ b. Told begun.mark mark begun.port b) (answered_more begun.port begun.content at.asked asked_now) (told_more at.told told)
 
-      reads_all : (mark : Mark) → Told before mark 1 (reply_to held m).bytes → Heard begun new (begun.stream ++ take j piece) (at.acting ++ m ∷ []) [] mark
+      reads_all : (mark : Mark) → Told before mark begun.port (reply_to begun.port held asked_now).bytes → Heard begun new (begun.stream ++ take j piece) (at.asked ++ asked_now ∷ []) [] mark
       reads_all mark told = record {
-        stands = subst (λ (ms : List Message). StandsFor new (begun.stream ++ take j piece) (begun.messages ++ ms)) (sym (append-nil (at.acting ++ m ∷ []))) heard.stands;
+        acting = heard.acting;
+        asks = subst (AllAsk begun.content.last.limits.scale heard.acting) (sym (append-nil (at.asked ++ asked_now ∷ []))) heard.asks;
+        stands = heard.stands;
         told = told_all mark told;
       }
 
-      whole_told : (mark : Mark) → Told before mark 1 (reply_to held m).bytes → Whole begun piece (at.acting ++ m ∷ []) []
+      whole_told : (mark : Mark) → Told before mark begun.port (reply_to begun.port held asked_now).bytes → Whole begun piece (at.asked ++ asked_now ∷ []) []
       whole_told mark told = whole_piece begun piece (drop j piece) (to_whole begun.stream piece j) (reads_all mark told)
 
-      held_after : after_all begun.content (at.acting ++ m ∷ []) ≡ after held m
-      held_after = after_all-append begun.content at.acting (m ∷ [])
+      held_after : after_all begun.content (at.asked ++ asked_now ∷ []) ≡ after held asked_now
+      held_after = after_all-append begun.content at.asked (asked_now ∷ [])
 
-      pub message_moment : (mark : Mark) → InAnswer held m before mark → InPiece begun piece mark
-      message_moment mark (inl same) = in_whole begun piece whole (told_here mark same)
-      message_moment mark (inr told) = in_whole begun piece (whole_told mark told) (told_all mark told)
+      moment_at : (mark : Mark) → InAnswer begun.port held asked_now before mark → InPiece begun piece mark
+      moment_at mark (inl same) = in_whole begun piece whole (told_here mark same)
+      moment_at mark (inr told) = in_whole begun piece (whole_told mark told) (told_all mark told)
 
-      pub message_leaves : (mark : Mark) (disk : Files) → LeavesInAnswer held m before mark disk → LeavesInPiece begun piece mark disk
-      message_leaves mark disk (inl (same, left)) =
-          leaves_whole begun piece whole (told_here mark same) held.last disk left (stays_all held.last held (m ∷ []) (last_in held)) (omega arith)
-      message_leaves mark disk (inr (inl same, left)) =
-          leaves_whole begun piece whole (told_here mark same) (after held m).last disk left (last_in (after held m)) (rises held m)
-      message_leaves mark disk (inr (inr told, left)) =
-          leaves_whole begun piece (whole_told mark told) (told_all mark told) (after held m).last disk left
-          (subst (λ (c : Content). IsIn (after held m).last (views_of c)) (sym held_after) (last_in (after held m)))
-          (subst (λ (c : Content). c.last.number ≤ (after held m).last.number) (sym held_after) (omega arith))
+      pub message_moment : (mark : Mark) → InAnswer session.port held asked_now before mark → InPiece begun piece mark
+      message_moment mark in_answer = moment_at mark (subst (λ (p : ℕ). InAnswer p held asked_now before mark) at.port in_answer)
 
-    pub message_wears : (after held m).worn ≡ true → WearsPiece begun piece
+      leaves_at : (mark : Mark) (disk : Files) → LeavesInAnswer begun.port held asked_now before mark disk → LeavesInPiece begun piece mark disk
+      leaves_at mark disk (inl (same, left)) =
+          leaves_whole begun piece whole (told_here mark same) held.last disk left (stays_all held.last held (asked_now ∷ []) (last_in held)) (omega arith)
+      leaves_at mark disk (inr (inl same, left)) =
+          leaves_whole begun piece whole (told_here mark same) (after held asked_now).last disk left (last_in (after held asked_now)) (rises held asked_now)
+      leaves_at mark disk (inr (inr told, left)) =
+          leaves_whole begun piece (whole_told mark told) (told_all mark told) (after held asked_now).last disk left
+          (subst (λ (c : Content). IsIn (after held asked_now).last (views_of c)) (sym held_after) (last_in (after held asked_now)))
+          (subst (λ (c : Content). c.last.number ≤ (after held asked_now).last.number) (sym held_after) (omega arith))
+
+      pub message_leaves : (mark : Mark) (disk : Files) → LeavesInAnswer session.port held asked_now before mark disk → LeavesInPiece begun piece mark disk
+      message_leaves mark disk leaves = leaves_at mark disk (subst (λ (p : ℕ). LeavesInAnswer p held asked_now before mark disk) at.port leaves)
+
+    pub message_wears : (after held asked_now).worn ≡ true → WearsPiece begun piece
     message_wears worn = wears_whole begun piece whole worn
 
   -- the piece is used up
@@ -185,7 +220,7 @@ module _ (begun : Begun) (piece : List ℕ) (keeper : Keeper) (session : Session
       → OnNone (Ok o) (j ≡ length piece) → AfterPiece begun piece keeper (record session { reader = new }) before old
   after_none o is reads kept fault used =
       read_all piece at (λ ms s. subst (λ l. StandsFor new (begun.stream ++ l) ms) whole (subst (λ x. StandsAfter new (begun.stream ++ take j piece) ms (Ok x)) is (reads begun.stream ms s)))
-      (fault ∙ sym (was_sound o kept)) refl
+      (fault ∙ sym (was_sound o kept)) refl refl
     where
       at_end : j ≡ length piece
       at_end = subst (λ x. OnNone (Ok x) (j ≡ length piece)) is used
@@ -197,31 +232,33 @@ module _ (begun : Begun) (piece : List ℕ) (keeper : Keeper) (session : Session
   pub after_kept : (e : RespError) → Kept session.reader new k j (Err e) → session.faulted ≡ true → AfterPiece begun piece keeper (record session { reader = new }) before old
   after_kept e kept flag =
       let old = sym at.fault ∙ flag in
-      let same = (kept old).1 in
+      let refusal = some_refusal (refusal_of session.reader) old in
+      let same = (kept refusal.0 refusal.1).1 in
       read_all piece at
       (λ ms s. subst (λ r. StandsFor r (begun.stream ++ piece) ms) (sym same)
       (subst (λ l. StandsFor session.reader l ms) (to_whole begun.stream piece k) (fault_stays session.reader (begun.stream ++ take k piece) (drop k piece) ms old s)))
-      (ap is_faulted same) refl
+      (ap is_faulted same) refl refl
 
   -- a fault was met, and told
   pub after_fault : (f : Refusal) (e : RespError) → e ≡ Refused f → Reads session.reader new (take k piece) (take j piece) (Err e) → TellsFault new (Err e) → session.faulted ≡ false
-      → (after_mark : Mark) (after_host : HostState) → Told before after_mark 1 (refusal_reply f) → Holds held keeper after_host → AfterPiece begun piece keeper (record { reader = new; faulted = true }) after_mark after_host
+      → (after_mark : Mark) (after_host : HostState) → Told before after_mark session.port (refusal_reply f) → Holds held keeper after_host
+      → AfterPiece begun piece keeper (record { port = session.port; reader = new; faulted = true }) after_mark after_host
   after_fault f e is reads fault flag after_mark after_host told holds =
       let tells = subst (λ x. TellsFault new (Err x)) is fault in
-      read_fault piece (drop j piece) at (λ ms s. subst (λ x. StandsAfter new (begun.stream ++ take j piece) ms (Err x)) is (reads begun.stream ms s))
-      (to_whole begun.stream piece j) (sym at.fault ∙ flag) tells.0 refl (subst (λ r. Told before after_mark 1 (refusal_reply r)) tells.1 told) holds
+      read_fault f piece (drop j piece) at (λ ms s. subst (λ x. StandsAfter new (begun.stream ++ take j piece) ms (Err x)) is (reads begun.stream ms s))
+      (to_whole begun.stream piece j) (sym at.fault ∙ flag) tells.0 tells.1 refl refl (told_at after_mark (refusal_reply f) told) holds
 
   -- nothing of the next message was read
-  whole_here : Whole begun piece at.acting []
+  whole_here : Whole begun piece at.asked []
   whole_here = whole_piece begun piece (drop k piece) (to_whole begun.stream piece k) (heard_all at)
 
   pub fault_moment : (f : Refusal) (e : RespError) → e ≡ Refused f → Reads session.reader new (take k piece) (take j piece) (Err e) → TellsFault new (Err e) → session.faulted ≡ false
-      → (mark : Mark) → (mark ≡ before) ⊎ Told before mark 1 (refusal_reply f) → InPiece begun piece mark
+      → (mark : Mark) → (mark ≡ before) ⊎ Told before mark session.port (refusal_reply f) → InPiece begun piece mark
   fault_moment f e is reads fault flag mark (inl same) = in_whole begun piece whole_here (told_here mark same)
   fault_moment f e is reads fault flag mark (inr told) = after_in_piece (after_fault f e is reads fault flag mark old told at.holds)
 
   pub fault_leaves : (f : Refusal) (e : RespError) → e ≡ Refused f → Reads session.reader new (take k piece) (take j piece) (Err e) → TellsFault new (Err e) → session.faulted ≡ false
-      → (mark : Mark) (disk : Files) → (mark ≡ before) ⊎ Told before mark 1 (refusal_reply f) → LeavesNow old disk → LeavesInPiece begun piece mark disk
+      → (mark : Mark) (disk : Files) → (mark ≡ before) ⊎ Told before mark session.port (refusal_reply f) → LeavesNow old disk → LeavesInPiece begun piece mark disk
   fault_leaves f e is reads fault flag mark disk (inl same) left =
       leaves_whole begun piece whole_here (told_here mark same) held.last disk (at.holds.left disk left) (last_in held) (omega arith)
   fault_leaves f e is reads fault flag mark disk (inr told) left = after_leaves_piece (after_fault f e is reads fault flag mark old told at.holds) disk left
@@ -234,18 +271,23 @@ pub ok_is : {T E P : Type 0} (r : Result T E) → P → OnOk r P
 ok_is (Ok v) p = p
 ok_is (Err e) p = tt
 
--- a put that was answered
-pub put_holds : (content : Content) (keeper : Keeper) (store : Store) (old new : HostState) (name : List ℕ) (p : Point) → Holds content keeper old → length name < 2 ^ 16 → IsPoint p
-    → store.limits ≡ keeper.store.limits → store.series.items ≡ after_put keeper.store.limits keeper.store.series.items name p
+-- points that were answered
+pub points_hold : (content : Content) (keeper : Keeper) (store : Store) (old new : HostState) (names : List (List ℕ)) (time : ℕ) (values : List ℤ) → Holds content keeper old
+    → store.limits ≡ keeper.store.limits → store.series.items ≡ after_points keeper.store.limits keeper.store.series.items names time values
+    → (AreStored keeper.store.limits keeper.store.series.items → AreStored store.limits store.series.items)
     → ((disk : Files) → LeavesNow new disk → LeavesNow old disk)
-    → Holds (after content (Put name p.ts p.value)) (record { gate = keeper.gate; store = store }) new
-put_holds content keeper store old new name p holds short in_range limits series back =
-    subst (λ (c : Content). Holds c (record { gate = keeper.gate; store = store }) new) (sym (sound_after content (Put name p.ts p.value) holds.not_worn)) (record {
-      limits_are = limits ∙ holds.limits_are;
-      series_are = series ∙ (λ i. after_put (holds.limits_are i) (holds.series_are i) name p);
+    → Holds (after content (Points names time values)) (record { gate = keeper.gate; store = store }) new
+points_hold content keeper store old new names time values holds limits series stays back =
+    let limits_are = limits ∙ holds.limits_are in
+    let series_are : store.series.items ≡ after_points content.last.limits content.series names time values =
+    series ∙ (λ i. after_points (holds.limits_are i) (holds.series_are i) names time values) in
+    let was : AreStored keeper.store.limits keeper.store.series.items = subst₂ AreStored (sym holds.limits_are) (sym holds.series_are) holds.stored in
+    subst (λ (c : Content). Holds c (record { gate = keeper.gate; store = store }) new) (sym (sound_after content (Points names time values) holds.not_worn)) (record {
+      limits_are = limits_are;
+      series_are = series_are;
       number_is = holds.number_is;
       not_worn = holds.not_worn;
-      stored = stored_after content.last.limits content.series name p holds.stored short in_range;
+      stored = subst₂ AreStored limits_are series_are (stays was);
       saved = holds.saved;
       left = λ disk left. holds.left disk (back disk left);
     })

@@ -4,10 +4,10 @@ use Rattle.ak_host.specs.Files.{Files}
 use Rattle.ak_host.specs.Marks.{Mark, Taken, told_to}
 use Rattle.ak_host.specs.Moments.{HostState, LeavesNow}
 use Rattle.ak_view.specs.Views.{View, IsSound, StandsFor}
-use Rattle.ak_top.specs.Contents.{views_of}
-use Rattle.ak_top.specs.Keeping.{IsIn, ArePrefixes, Confirms}
-use Rattle.ak_top.specs.Replies.{Reply}
-use Rattle.ak_top.specs.Run.{World, world_of, RunsFrom}
+use Rattle.ak_run.specs.Contents.{views_of}
+use Rattle.ak_run.specs.Keeping.{IsIn, ArePrefixes, Confirms}
+use Rattle.ak_run.specs.Replies.{Reply}
+use Rattle.ak_run.specs.Run.{World, world_of, RunsFrom}
 use Rattle.ak_top.specs.Told.{Since}
 
 -- The run of these turns leads to this world, and is told these replies.

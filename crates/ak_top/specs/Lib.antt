@@ -1,8 +1,3 @@
-pub mod Store
-pub mod Contents
-pub mod Replies
-pub mod Run
-pub mod Keeping
 pub mod Told
 pub mod Kept
 pub mod Calls

@@ -1,5 +1,6 @@
 -- What a node stands for.
-use Rattle.std.specs.Prelude.{ℕ, ◌≡◌, ◌≤◌, true, false, List, [], ◌∷◌, ◌++◌, Option, Some, None, length}
+use Rattle.std.specs.Prelude.{ℕ, zero, suc, ◌≡◌, ◌⊎◌, ◌≤◌, nat_lt, true, false, if◌then◌else◌, List, [], ◌∷◌, ◌++◌, length}
+use Rattle.std.specs.List.{AllByRecursion}
 use Rattle.ak_gate.specs.Fits.{IsSized, Fits}
 use Rattle.ak_host.specs.Files.{Files}
 use Rattle.ak_host.specs.Marks.{Mark, Taken, piece, ended, idle, done, Telling, told_to}
@@ -8,28 +9,23 @@ use Rattle.ak_host.specs.declared.host.Turn.{Turn}
 use Rattle.ak_host.specs.declared.host.Turn.TheVariants as turn
 use Rattle.ak_resp.specs.declared.message.Message.{Message}
 use Rattle.ak_resp.specs.Standing.{StandsFor, is_faulted}
-use Rattle.ak_view.specs.Payload.{need_of, AreStored}
+use Rattle.ak_run.specs.Contents.{Content, views_of}
+use Rattle.ak_run.specs.Fitting.{IsFit}
+use Rattle.ak_run.specs.Keeping.{IsIn, Confirms}
+use Rattle.ak_run.specs.Replies.{Reply, bytes_at}
+use Rattle.ak_run.specs.Run.{World, Gives, EndGives, AllEnd}
+use Rattle.ak_run.specs.Sessions.{Session as Stream}
+use Rattle.ak_view.specs.Payload.{AreStored}
 use Rattle.ak_view.specs.Views.{View}
 use Rattle.ak_view.specs.Views.{StandsFor as IsLeft}
 use Rattle.ak_top.specs.declared.keeper.Keeper.{Keeper}
 use Rattle.ak_top.specs.declared.node.Node.{Node}
-use Rattle.ak_top.specs.declared.node.Session.{Session}
+use Rattle.ak_top.specs.declared.session.Session.{Session}
 use Rattle.ak_top.specs.declared.node.Went.{Went}
 use Rattle.ak_top.specs.declared.node.Went.TheVariants.{More}
 use Rattle.ak_top.specs.declared.node.Went.TheVariants as went
-use Rattle.ak_top.specs.declared.store.Store.{Store}
-use Rattle.ak_top.specs.Contents.{Content, views_of}
-use Rattle.ak_top.specs.Keeping.{IsIn, Confirms}
-use Rattle.ak_top.specs.Replies.{Reply, bytes_at}
 use Rattle.ak_top.specs.Calls.{Told}
-use Rattle.ak_top.specs.Run.{World, Gives, EndGives}
-use Rattle.ak_top.specs.Store.{room_of}
 use Rattle.ak_top.specs.Told.{Begins}
-
--- the store knows the bytes of a slot that its series take, and they fit
-pub record IsFit (store : Store) : Type 0 where
-  pub size_is : store.size ≡ need_of store.limits store.series.items
-  pub room : store.size ≤ room_of store.limits
 
 -- views can be saved behind the gate
 pub record IsReady (told : Type 0) (keeper : Keeper) (host : HostState) : Type 0 where
@@ -39,6 +35,11 @@ pub record IsReady (told : Type 0) (keeper : Keeper) (host : HostState) : Type 0
   pub sized : IsSized keeper.gate.slot host
   pub fit : IsFit keeper.store
   pub fits : told → Fits keeper.gate host
+
+-- views can be saved, and no session is the console's
+pub record CanServe (told : Type 0) (node : Node) (host : HostState) : Type 0 where
+  pub ready : IsReady told node.keeper host
+  pub ports : AllByRecursion (λ s. 1 ≤ s.port) node.sessions.items
 
 -- The store holds the content, and whatever a stop leaves stands for its last view.
 pub record Holds (content : Content) (keeper : Keeper) (host : HostState) : Type 0 where
@@ -56,16 +57,26 @@ pub record HasRead (session : Session) (stream : List ℕ) : Type 0 where
   pub stands : StandsFor session.reader stream messages
   pub fault : session.faulted ≡ is_faulted session.reader
 
-abbrev pub IsSession : Option Session → Option (List ℕ) → Type 0
-IsSession None None = Unit {0}
-IsSession None (Some stream) = ⊥
-IsSession (Some session) None = ⊥
-IsSession (Some session) (Some stream) = HasRead session stream
+-- a session is that of this stream, and has read it
+abbrev pub IsSession : Session → Stream → Type 0
+IsSession session stream = (session.port ≡ stream.port) × HasRead session stream.stream
 
--- The node holds the world's content, and has read its stream.
+-- the sessions are those of these streams, in order
+abbrev pub AreSessions : List Session → List Stream → Type 0
+AreSessions [] [] = Unit {0}
+AreSessions [] (stream ∷ streams) = ⊥
+AreSessions (session ∷ sessions) [] = ⊥
+AreSessions (session ∷ sessions) (stream ∷ streams) = IsSession session stream × AreSessions sessions streams
+
+-- where the first session is whose port isn't below this one
+abbrev pub place_of : List Session → ℕ → ℕ
+place_of [] port = zero
+place_of (session ∷ sessions) port = if nat_lt session.port port then suc (place_of sessions port) else zero
+
+-- The node holds the world's content, and its sessions have read those of the world.
 pub record Stands (node : Node) (world : World) (host : HostState) : Type 0 where
   pub holds : Holds world.content node.keeper host
-  pub session : IsSession node.session world.stream
+  pub sessions : AreSessions node.sessions.items world.sessions
 
 -- From start on no turn was taken, and these were told.
 pub record Tells (start mark : Mark) (tellings : List Telling) : Type 0 where
@@ -113,21 +124,35 @@ pub record Wears (world : World) (turn : Taken) : Type 0 where
   pub gives : Gives world turn next answer
   pub worn : next.content.worn ≡ true
 
--- within the answer to the end of port 1's session: a part of it was told
-pub record InEnd (world : World) (start mark : Mark) : Type 0 where
+-- within the answer to the end of a session: nothing of it was told, or all
+pub record InEnd (port : ℕ) (stream : List ℕ) (start mark : Mark) : Type 0 where
   pub reply : List ℕ
-  pub gives : EndGives world.stream reply
-  pub part : List ℕ
-  pub told : Told start mark 1 part
-  pub begins : Begins part reply
+  pub gives : EndGives stream reply
+  pub told : (mark ≡ start) ⊎ Told start mark port reply
 
--- after it: all of it was told, and the store holds what it held
-pub record AfterEnd (world : World) (start mark : Mark) (node : Node) (host : HostState) : Type 0 where
+-- after it: all of it was told
+pub record AfterEnd (port : ℕ) (stream : List ℕ) (start mark : Mark) : Type 0 where
   pub reply : List ℕ
-  pub gives : EndGives world.stream reply
-  pub told : Told start mark 1 reply
-  pub holds : Holds world.content node.keeper host
-  pub session : node.session ≡ None
+  pub gives : EndGives stream reply
+  pub told : Told start mark port reply
+
+-- within the answers to the ends of sessions: a part of them was told
+pub record InEnds (streams : List Stream) (start mark : Mark) : Type 0 where
+  pub tellings : List Telling
+  pub tells : Tells start mark tellings
+  pub replies : List Reply
+  pub ends : AllEnd streams replies
+  pub part : (port : ℕ) → Begins (told_to port tellings) (bytes_at port replies)
+  pub console : told_to 0 tellings ≡ []
+
+-- after them: all was told
+pub record AfterEnds (streams : List Stream) (start mark : Mark) : Type 0 where
+  pub tellings : List Telling
+  pub tells : Tells start mark tellings
+  pub replies : List Reply
+  pub ends : AllEnd streams replies
+  pub all : (port : ℕ) → told_to port tellings ≡ bytes_at port replies
+  pub console : told_to 0 tellings ≡ []
 
 -- within a turn: it was taken, and a part of its answer told
 pub record InTurn (world : World) (start mark : Mark) : Type 0 where

@@ -5,8 +5,8 @@ use Rattle.ak_base.specs.declared.stop.Stop.{Stop}
 use Rattle.ak_base.specs.Stops.{stop_text, status_of}
 use Rattle.ak_host.specs.Marks.{Mark, Taken, piece, ended, idle, done, Telling, told_to}
 use Rattle.ak_view.specs.Views.{View}
-use Rattle.ak_top.specs.Replies.{Reply}
-use Rattle.ak_top.specs.Run.{World, world_of, RunsFrom, AreAnswers}
+use Rattle.ak_run.specs.Replies.{Reply}
+use Rattle.ak_run.specs.Run.{World, world_of, RunsFrom, AreAnswers}
 
 -- the list begins with these
 pub record Begins (front list : List ℕ) : Type 0 where

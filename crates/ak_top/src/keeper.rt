@@ -3,13 +3,13 @@ ghost use Rattle.std.specs.Prelude.{◌≡◌, ◌⊎◌, ◌≤◌, ◌-◌, �
 ghost use Rattle.ak_host.specs.Moments.{DiskPasses};
 ghost use Rattle.ak_view.specs.Views.{StandsFor};
 ghost use Rattle.ak_top.specs.Calls.{HasStops, IsSilent, OnStop, IsWornStop};
-ghost use Rattle.ak_top.specs.Contents.{Content, after_view};
+ghost use Rattle.ak_run.specs.Contents.{Content, after_view};
 ghost use Rattle.ak_top.specs.Standing.{IsReady, Holds};
 
-use crate::store::Store;
 use ak_base::Stop;
 use ak_gate::Gate;
 use ak_host::Disk;
+use ak_run::Store;
 use ak_view::save;
 use std::alloc::Global;
 

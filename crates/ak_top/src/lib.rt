@@ -1,12 +1,13 @@
 //! The top call: reads the words, does the command, and answers the status.
 #![tactic(auto)]
 
+mod answers;
 mod keeper;
 mod laws;
 mod node;
-mod replies;
-mod store;
+mod reading;
+mod session;
 mod top;
 
-pub use laws::{every_run, one_run, sound_disks, views_hold_prefixes};
+pub use laws::sound_disks;
 pub use top::akl;

@@ -1,5 +1,5 @@
 //! The top call.
-ghost use Rattle.std.specs.Prelude.{◌≡◌, ◌≢◌, ◌⊎◌, ◌↔◌, ◌≤◌, [], map, string_bytes, OnOk, IfOk, IfErr, None};
+ghost use Rattle.std.specs.Prelude.{◌≡◌, ◌≢◌, ◌⊎◌, ◌↔◌, ◌≤◌, [], map, string_bytes, OnOk, IfOk, IfErr};
 ghost use Rattle.ak_base.specs.declared.limits.Limits.{Limits};
 ghost use Rattle.ak_base.specs.Ranges.{AreLimits};
 ghost use Rattle.ak_base.specs.Stops.{status_of};
@@ -13,19 +13,20 @@ ghost use Rattle.ak_top.specs.Calls.{Told, IsSilent, HasServeStops, HasTold, OnS
 ghost use Rattle.ak_top.specs.Commands.{IsRun, Creates, Makes, Serves, Opens, AreFree, IsMaking, LeavesBefore, scratch_limits};
 ghost use Rattle.ak_top.specs.Ends.{EndsBy, IsEnd, IsOneOf, IsOwn, IsRunStop, IsScratchStop, OnlyBy, IsMissing, IsThere, IsRefused, IsServing, IsServingOrThere, IsExists, HasServed, IsFinished};
 ghost use Rattle.ak_top.specs.Kept.{IsKept, KeepsFrom, KeepsLast};
-ghost use Rattle.ak_top.specs.Run.{world_of};
-ghost use Rattle.ak_top.specs.Standing.{IsReady, Stands};
+ghost use Rattle.ak_run.specs.Run.{world_of};
+ghost use Rattle.ak_top.specs.Standing.{CanServe, Stands};
 ghost use Rattle.ak_top.specs.Told.{IsComplete, EndsDone, AreSpent, IsWorn, IsTold, line_of, IsQuiet};
 
 use crate::keeper::Keeper;
 use crate::node::{Node, Went};
-use crate::store::Store;
 use ak_base::{Limits, Stop};
 use ak_gate::Gate;
 use ak_host::{Disk, Host, Ports};
+use ak_names::Index;
+use ak_run::Store;
 use ak_view::{make_store, open_newest, sync_all};
 use ak_words::{Command, WordsError, read_words};
-use std::alloc::Global;
+use std::alloc::{AllocError, Global};
 
 // How many turns a call takes at most.
 const TURNS: u64 = 1 << 32;
@@ -35,7 +36,7 @@ const EMPTY_SIZE: u64 = 48;
 
 /// Takes turns up to the last, and answers each.
 fn serve<H: Host>(alloc: Global, host: &mut H, node: Node) -> Result<(), Stop>
-    requires ready { IsReady H.tells node.keeper (H.state host.old) }
+    requires ready { CanServe H.tells node (H.state host.old) }
     ensures cause { HasServeStops (H.state host.old) (H.state host.new) result }
     ensures silent { H.tells → IsSilent (H.state host.old) (H.state host.new) }
     ensures spent { H.tells → (view : View) → Stands node (world_of view) (H.state host.old)
@@ -70,7 +71,7 @@ fn serve<H: Host>(alloc: Global, host: &mut H, node: Node) -> Result<(), Stop>
 fn open_store<D: Disk>(alloc: Global, disk: &mut D) -> Result<Node, Stop>
     ensures err { IfErr result (IsOpenStop D.tells (D.state disk.old) (D.state disk.new)) }
     ensures no_store { D.tells → IsNoStore (D.state disk.old).files → IfOk result (λ node. ⊥) }
-    ensures ready { IfOk result (λ node. IsReady D.tells node.keeper (D.state disk.new)) }
+    ensures ready { IfOk result (λ node. CanServe D.tells node (D.state disk.new)) }
     ensures stands { D.tells → (view : View) → StandsFor view (D.state disk.old).files → IfOk result (λ node. Stands node (world_of view) (D.state disk.new)) }
     ensures moments { D.tells → DiskPasses (LeavesNow (D.state disk.old)) (D.state disk.old) (D.state disk.new) }
     ensures disk_later { (D.state disk.old).disk_faults ≤ (D.state disk.new).disk_faults }
@@ -87,32 +88,35 @@ fn open_store<D: Disk>(alloc: Global, disk: &mut D) -> Result<Node, Stop>
             store: Store {
                 limits: opened.limits,
                 series: opened.series,
+                names: opened.names,
                 size: opened.size,
             },
         },
-        session: None,
+        sessions: Vec::new(alloc),
     })
 }
 
 /// The node of a store that was just made.
-fn first_node(alloc: Global, gate: Gate, limits: Limits) -> Node
-    ensures limits { result.keeper.store.limits ≡ limits }
-    ensures series { result.keeper.store.series.items ≡ [] }
-    ensures size { result.keeper.store.size ≡ 48 }
-    ensures gate { result.keeper.gate ≡ gate }
-    ensures session { result.session ≡ None }
+fn first_node(alloc: Global, gate: Gate, limits: Limits) -> Result<Node, AllocError>
+    ensures limits { IfOk result (λ node. node.keeper.store.limits ≡ limits) }
+    ensures series { IfOk result (λ node. node.keeper.store.series.items ≡ []) }
+    ensures names { IfOk result (λ node. node.keeper.store.names ≡ []) }
+    ensures size { IfOk result (λ node. node.keeper.store.size ≡ 48) }
+    ensures gate { IfOk result (λ node. node.keeper.gate ≡ gate) }
+    ensures sessions { IfOk result (λ node. node.sessions.items ≡ []) }
 {
-    Node {
+    Ok(Node {
         keeper: Keeper {
             gate,
             store: Store {
                 limits,
                 series: Vec::new(alloc),
+                names: Index::new(alloc)?,
                 size: EMPTY_SIZE,
             },
         },
-        session: None,
-    }
+        sessions: Vec::new(alloc),
+    })
 }
 
 /// Opens the store, and serves it.
@@ -149,7 +153,10 @@ fn scratch<H: Host>(alloc: Global, host: &mut H) -> Result<(), Stop>
 {
     let limits = Limits::SCRATCH;
     let gate = make_store(alloc, host, &limits)?;
-    serve(alloc, host, first_node(alloc, gate, limits))
+    match first_node(alloc, gate, limits) {
+        Ok(node) => serve(alloc, host, node),
+        Err(_) => Err(Stop::Memory),
+    }
 }
 
 /// Makes a store.

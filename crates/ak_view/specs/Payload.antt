@@ -1,6 +1,6 @@
 -- The payload of a slot: the limits, and each series with all its points. Numbers are spelled lowest byte first.
-use Rattle.std.specs.Prelude.{ℕ, zero, suc, ◌≡◌, ◌+◌, ◌-◌, ◌^◌, ◌%◌, ◌/◌, ◌<◌, ℤ, pos, negsuc, List, [], ◌∷◌, ◌++◌, length}
-use Rattle.std.specs.List.{flat_map, AllByRecursion}
+use Rattle.std.specs.Prelude.{ℕ, zero, suc, ◌≡◌, ◌+◌, ◌-◌, ◌^◌, ◌%◌, ◌/◌, ◌<◌, ℤ, pos, negsuc, List, [], ◌∷◌, ◌++◌, length, map, bytes_eq, IsUtf8}
+use Rattle.std.specs.List.{flat_map, AllByRecursion, IsDistinct}
 use Rattle.ak_base.specs.declared.limits.Limits.{Limits}
 use Rattle.ak_base.specs.declared.point.Point.{Point}
 use Rattle.ak_base.specs.Points.{IsPoint}
@@ -37,17 +37,23 @@ payload_of limits series = low_bytes 4 0 ++ (limits_bytes limits ++ (low_bytes 4
 abbrev pub need_of : Limits → List Series → ℕ
 need_of limits series = 16 + length (payload_of limits series)
 
--- the lengths of a series fit their fields, and so do its points
+-- The name is UTF-8, the lengths of a series fit their fields, and so do its points.
 pub record IsSeries (s : Series) : Type 0 where
+  pub utf8 : IsUtf8 s.name
   pub name : length s.name < 2 ^ 16
   pub points : length s.points < 2 ^ 32
   pub each : AllByRecursion IsPoint s.points
 
--- the limits are in their ranges, and each length and each point fits its field
+-- the names of series
+abbrev pub names_of : List Series → List (List ℕ)
+names_of series = map (λ s. s.name) series
+
+-- The limits are in their ranges, each length and each point fits its field, and no two names are alike.
 pub record AreStored (limits : Limits) (series : List Series) : Type 0 where
   pub limits_are : AreLimits limits
   pub few : length series < 2 ^ 32
   pub each : AllByRecursion IsSeries series
+  pub apart : IsDistinct bytes_eq (names_of series)
 
 -- the bytes are the payload of these limits and series
 pub record Spells (bytes : List ℕ) (limits : Limits) (series : List Series) : Type 0 where

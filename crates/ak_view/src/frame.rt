@@ -67,7 +67,7 @@ fn put_all(into: &mut Bytes, alloc: Global, series: &[Series]) -> Result<(), All
 fn put_series(into: &mut Bytes, alloc: Global, series: &Series) -> Result<(), AllocError>
     ensures { OnOk result (into.new ≡ into.old ++ series_bytes series.now) }
 {
-    let name = series.name.as_slice();
+    let name = series.name.as_str().as_bytes();
     let points = series.points.as_slice();
     put_number(into, alloc, 2, name.len() as u64)?;
     into.extend(alloc, name)?;

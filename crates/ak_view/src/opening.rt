@@ -6,7 +6,7 @@ ghost use Rattle.ak_gate.specs.Fits.{Fits};
 ghost use Rattle.ak_gate.specs.Opening.{IsWhole};
 ghost use Rattle.ak_gate.specs.Slots.{body_index, newest};
 ghost use Rattle.ak_view.specs.declared.series.Series.{Series};
-ghost use Rattle.ak_view.specs.Payload.{need_of, AreStored, Spells};
+ghost use Rattle.ak_view.specs.Payload.{need_of, names_of, AreStored, Spells};
 ghost use Rattle.ak_view.specs.Views.{frame_for};
 ghost use Rattle.ak_view.specs.Stops.{IsNoStore, IsOpenStop};
 
@@ -15,14 +15,17 @@ use crate::series::Series;
 use ak_base::{Limits, Stop};
 use ak_gate::Gate;
 use ak_host::Disk;
+use ak_names::Index;
 use std::alloc::Global;
 
-/// The newest view as it was found: its gate, the limits, the series, and the bytes of a slot that it takes.
+/// The newest view as it was found: its gate, the limits, the series with an index of their names, and the bytes of a
+/// slot that it takes.
 #[derive(Drop)]
 pub struct Opened {
     pub gate: Gate,
     pub limits: Limits,
     pub series: Vec<Series>,
+    pub names: Index,
     pub size: u64,
 }
 
@@ -50,6 +53,7 @@ fn newest_body(gate: &Gate) -> u32
 fn content_of(alloc: Global, gate: &Gate, payload: &[u8]) -> Result<Content, Stop>
     requires { 2 + 2 * gate.now.slot < 2 ^ 32 }
     ensures spells { IfOk result (λ content. Spells payload.now content.limits content.series.items) }
+    ensures names { IfOk result (λ content. content.names ≡ names_of content.series.items) }
     ensures slot { IfOk result (λ content. content.limits.slot ≡ gate.now.slot) }
     ensures err { IfErr result (λ stop. (stop ≡ Stop.Memory) ⊎ ((stop ≡ Stop.Damaged 0 (body_index gate.now.slot gate.now.newest))
         × ((limits : Limits) (series : List Series) → Spells payload.now limits series → limits.slot ≡ gate.now.slot → ⊥))) }
@@ -77,6 +81,7 @@ pub fn open_newest<D: Disk>(alloc: Global, disk: &mut D) -> Result<Opened, Stop>
     ensures no_store { D.tells → IsNoStore (D.state disk.old).files → IfOk result (λ opened. ⊥) }
     ensures gate { IfOk result (λ opened. IsWhole opened.gate (D.state disk.new) × (opened.limits.slot ≡ opened.gate.slot)) }
     ensures size { IfOk result (λ opened. (opened.size ≡ need_of opened.limits opened.series.items) × (opened.size ≤ 4096 * opened.gate.slot)) }
+    ensures names { IfOk result (λ opened. opened.names ≡ names_of opened.series.items) }
     ensures stored { IfOk result (λ opened. AreStored opened.limits opened.series.items) }
     ensures newest { D.tells → IfOk result (λ opened. newest opened.gate.slot (D.state disk.old).files
         ≡ Some (frame_for (record { number = opened.gate.number; limits = opened.limits; series = opened.series.items }))) }
@@ -88,12 +93,17 @@ pub fn open_newest<D: Disk>(alloc: Global, disk: &mut D) -> Result<Opened, Stop>
     ensures moments { D.tells → DiskPasses (LeavesNow (D.state disk.old)) (D.state disk.old) (D.state disk.new) }
 {
     let (gate, payload) = Gate::open(alloc, disk)?;
-    let Content { limits, series } = content_of(alloc, &gate, payload.as_slice())?;
+    let Content {
+        limits,
+        series,
+        names,
+    } = content_of(alloc, &gate, payload.as_slice())?;
     let size = 16 + payload.as_slice().len() as u64;
     Ok(Opened {
         gate,
         limits,
         series,
+        names,
         size,
     })
 }

@@ -1,22 +1,25 @@
 //! Reads a payload.
-ghost use Rattle.std.specs.Prelude.{◌≡◌, ◌+◌, ◌*◌, ◌^◌, ◌<◌, ◌≤◌, ◌↔◌, List, ℕ, ◌++◌, length, take, drop, IfOk, IfSome, IfNone, IsTrue, MatchOption};
-ghost use Rattle.std.specs.List.{flat_map, AllByRecursion};
+ghost use Rattle.std.specs.Prelude.{◌≡◌, ◌+◌, ◌*◌, ◌^◌, ◌<◌, ◌≤◌, ◌↔◌, List, ℕ, ◌++◌, length, take, drop, IfOk, IfSome, IfNone, IsTrue, MatchOption, bytes_eq};
+ghost use Rattle.std.specs.List.{flat_map, list_any, AllByRecursion, IsDistinct};
 ghost use Rattle.ak_base.specs.declared.limits.Limits.{Limits};
 ghost use Rattle.ak_base.specs.Points.{IsPoint};
 ghost use Rattle.ak_base.specs.Ranges.{AreLimits};
 ghost use Rattle.ak_view.specs.declared.series.Series.{Series};
-ghost use Rattle.ak_view.specs.Payload.{Spells, IsSeries, low_bytes, point_bytes, series_bytes, limits_bytes};
+ghost use Rattle.ak_view.specs.Payload.{Spells, IsSeries, names_of, low_bytes, point_bytes, series_bytes, limits_bytes};
 
 use crate::numbers::get_number;
 use crate::series::Series;
-use ak_base::{Bytes, Limits, Point, Sequence};
+use ak_base::{Limits, Point, Sequence, Text};
+use ak_names::Index;
 use std::alloc::{AllocError, Global};
+use std::str::from_utf8;
 
-/// What a payload spells.
+/// What a payload spells, and an index of the names of the series.
 #[derive(Drop)]
 pub struct Content {
     pub limits: Limits,
     pub series: Vec<Series>,
+    pub names: Index,
 }
 
 /// The bytes before the series.
@@ -26,17 +29,18 @@ const FRONT: usize = 32;
 pub fn read_payload(alloc: Global, bytes: &[u8]) -> Result<Option<Content>, AllocError>
     ensures { IfOk result (λ content. MatchOption content
         ((limits : Limits) (series : List Series) → Spells bytes.now limits series → ⊥)
-        (λ content. Spells bytes.now content.limits content.series.items)) }
+        (λ content. Spells bytes.now content.limits content.series.items × (content.names ≡ names_of content.series.items))) }
 {
     let Some(front) = read_front(bytes) else {
         return Ok(None);
     };
-    let Some(series) = read_all(alloc, bytes, FRONT, front.count)? else {
+    let Some((series, names)) = read_all(alloc, bytes, FRONT, front.count)? else {
         return Ok(None);
     };
     Ok(Some(Content {
         limits: front.limits,
         series,
+        names,
     }))
 }
 
@@ -101,31 +105,47 @@ fn is_within(number: u32, least: u32, most: u32) -> bool
     least <= number && number <= most
 }
 
-/// So many series from a place to the end. `None` exactly where the bytes there spell no such series.
+/// So many series from a place to the end, and an index of their names. `None` exactly where the bytes there spell no
+/// such series with names of which no two are alike.
 fn read_all(
     alloc: Global,
     from: &[u8],
     start: usize,
     count: u64,
-) -> Result<Option<Vec<Series>>, AllocError>
-    requires { start ≤ length from.now }
+) -> Result<Option<(Vec<Series>, Index)>, AllocError>
+    requires within { start ≤ length from.now }
+    requires few { count < 2 ^ 32 }
     ensures { IfOk result (λ found. MatchOption found
-        ((all : List Series) → AllByRecursion IsSeries all → length all ≡ count → drop start from.now ≡ flat_map series_bytes all → ⊥)
-        (λ all. AllByRecursion IsSeries all.items × (length all.items ≡ count) × (drop start from.now ≡ flat_map series_bytes all.items))) }
+        ((all : List Series) → AllByRecursion IsSeries all → IsDistinct bytes_eq (names_of all) → length all ≡ count → drop start from.now ≡ flat_map series_bytes all → ⊥)
+        (λ found. AllByRecursion IsSeries found.0.items × IsDistinct bytes_eq (names_of found.0.items) × (found.1 ≡ names_of found.0.items)
+        × (length found.0.items ≡ count) × (drop start from.now ≡ flat_map series_bytes found.0.items))) }
 {
     let mut all = Vec::new(alloc);
+    let mut names = Index::new(alloc)?;
     let mut at = start;
     for _ in 0..count {
         let Some((series, end)) = read_series(alloc, from, at)? else {
             return Ok(None);
         };
+        if has_name(&names, &series.name) {
+            return Ok(None);
+        }
+        names.add(alloc, &series.name)?;
         all.push(series)?;
         at = end;
     }
     if at < from.len() {
         return Ok(None);
     }
-    Ok(Some(all))
+    Ok(Some((all, names)))
+}
+
+/// Whether a name is among these.
+#[tactic(auto, using(crate::proofs::Apart::some_passes))]
+fn has_name(names: &Index, name: &Text) -> bool
+    ensures { result ≡ list_any (λ n. bytes_eq name.now n) names.now }
+{
+    names.id(name).is_some()
 }
 
 /// A series at a place, and its end. `None` exactly where no series is spelled there.
@@ -139,8 +159,11 @@ fn read_series(alloc: Global, from: &[u8], at: usize) -> Result<Option<(Series, 
         return Ok(None);
     };
     let middle = at + 2 + sizes.name;
-    let mut name = Bytes::new(alloc);
-    name.extend(alloc, &from[at + 2..middle])?;
+    let Ok(text) = from_utf8(&from[at + 2..middle]) else {
+        return Ok(None);
+    };
+    let mut name = Text::new(alloc);
+    name.push(alloc, text)?;
     let points = get_points(alloc, from, middle + 4, sizes.points)?;
     let end = middle + 4 + 16 * sizes.points;
     Ok(Some((Series { name, points }, end)))

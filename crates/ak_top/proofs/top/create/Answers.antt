@@ -1,5 +1,5 @@
 use Rattle.ak_host.proofs.Passing.{disk_weaker}
-use Rattle.ak_top.proofs.Opening.{free_none, making}
+use Rattle.ak_top.proofs.Opening.{free_none, making, stored_first}
 use Rattle.ak_top.proofs.top.create.Goals as goal
 
 pub returns-in_err-make_store-clause-moments : goal.returns-in_err-make_store-clause-moments
@@ -9,3 +9,6 @@ returns-in_err-make_store-clause-moments g c told free =
 pub returns-clause-moments : goal.returns-clause-moments
 returns-clause-moments g c told free =
     disk_weaker (c.make_store.ensures.moments told (λ disk left. free_none disk (free disk left))) (making c.args.limits c.requires)
+
+pub returns-clause-made : goal.returns-clause-made
+returns-clause-made g c told left leaves = record { stored = stored_first c.args.limits c.requires; has = c.in_ok-make_store.ensures.rests told left leaves }

@@ -1,8 +1,27 @@
-use Rattle.std.proofs.Common.{◌∙◌, sym, ap, arith, refl, ◌<◌, ℕ, List, length, slice_index}
+use Rattle.std.proofs.Common.{◌≡◌, ◌∙◌, sym, ap, subst, arith, refl, rules, ◌<◌, ◌≤◌, ℕ, List, [], length, slice_index}
+use Rattle.std.specs.List.{AllByRecursion}
 use Rattle.ak_host.specs.Files.{Files, file_at}
 use Rattle.ak_host.proofs.Passing.{disk_now}
 use Rattle.ak_top.proofs.Opening.{found_view, stands_by_file, file_long}
+use Rattle.ak_top.specs.declared.session.Session.{Session}
+use Rattle.ak_top.specs.Standing.{AreSessions}
 use Rattle.ak_top.proofs.top.open_store.Goals as goal
+
+pub returns-clause-ready : goal.returns-clause-ready
+returns-clause-ready g c =
+    let none : c.new.result.items ≡ [] = search rules in
+    let o = c.in_ok-opened.ensures in
+    record {
+      ready = record {
+        whole = o.gate.0.whole;
+        opened = o.gate.0.opened;
+        slot_is = o.gate.1;
+        sized = o.gate.0.sized;
+        fit = record { limits_are = o.stored.limits_are; names_are = o.names; size_is = o.size.0; room = omega (arith, o.size.1, o.gate.1) };
+        fits = λ told. o.fits told (c.in_ok-sync_all.ensures.stable told 0 (search rules));
+      };
+      ports = subst (λ (l : List Session). AllByRecursion (λ s. 1 ≤ s.port) l) (sym none) tt;
+    }
 
 pub returns-clause-stands : goal.returns-clause-stands
 returns-clause-stands g c told view stands =
@@ -10,6 +29,7 @@ returns-clause-stands g c told view stands =
     let mid = g.D.Outside.state c.sync_all.new.disk in
     let new = g.D.Outside.state c.open_newest.new.disk in
     let o = c.in_ok-opened.opened in
+    let none : c.new.result.items ≡ [] = search rules in
     let there : 0 < length old.sizes = omega arith in
     let stable = c.in_ok-sync_all.ensures.stable told 0 there in
     let same = c.sync_all.ensures.files told in
@@ -25,5 +45,5 @@ returns-clause-stands g c told view stands =
         saved = stands.stored;
         left = λ disk left. stands_by_file view old.files disk (stable disk (disk_now (c.open_newest.ensures.moments told) (λ d was. was) disk left) ∙ ap (λ (f : Files). file_at f 0) same) stands;
       };
-      session = tt;
+      sessions = subst (λ (l : List Session). AreSessions l []) (sym none) tt;
     }

@@ -19,22 +19,22 @@ returns-in_err-gate-clause-stands g c told =
     keeps_none (first_view scratch_limits) old new run.later
     (making_still scratch_limits old new run (λ free. disk_weaker (c.make_store.ensures.moments told (λ disk left. free_none disk (free disk left))) (making scratch_limits are_scratch)))
 
-pub returns-clause-quiet : goal.returns-clause-quiet
-returns-clause-quiet g c told =
+pub returns-in-Ok-clause-quiet : goal.returns-in-Ok-clause-quiet
+returns-in-Ok-clause-quiet g c told =
     let old = g.H.Outside.state c.args.host.now in
     let mid = g.H.Outside.state c.make_store.new.disk in
     let run = c.make_store.ensures.passes told in
-    let number = ap (λ (v : View). v.number) c.first_node.ensures.gate ∙ c.in_ok-gate.ensures.gate.2 in
-    let there = first_stands c.first_node.result mid c.first_node.ensures.limits c.first_node.ensures.series number c.first_node.ensures.session are_scratch (c.in_ok-gate.ensures.rests told) in
-    quiet_served (first_view scratch_limits) c.first_node.result old mid (g.H.Outside.state c.serve.new.host) (same_mark run) there (c.serve.ensures.moments told (first_view scratch_limits) there) run
+    let number = ap (λ (v : View). v.number) c.in-Ok.ensures.gate ∙ c.in_ok-gate.ensures.gate.2 in
+    let there = first_stands c.in-Ok.node mid c.in-Ok.ensures.limits c.in-Ok.ensures.series number c.in-Ok.ensures.sessions are_scratch (c.in_ok-gate.ensures.rests told) in
+    quiet_served (first_view scratch_limits) c.in-Ok.node old mid (g.H.Outside.state c.serve.new.host) (same_mark run) there (c.serve.ensures.moments told (first_view scratch_limits) there) run
 
-pub returns-clause-served : goal.returns-clause-served
-returns-clause-served g c told =
+pub returns-in-Ok-clause-served : goal.returns-in-Ok-clause-served
+returns-in-Ok-clause-served g c told =
     let mid = g.H.Outside.state c.make_store.new.disk in
     let run = c.make_store.ensures.passes told in
     let view = first_view scratch_limits in
-    let number = ap (λ (v : View). v.number) c.first_node.ensures.gate ∙ c.in_ok-gate.ensures.gate.2 in
-    let there = first_stands c.first_node.result mid c.first_node.ensures.limits c.first_node.ensures.series number c.first_node.ensures.session are_scratch (c.in_ok-gate.ensures.rests told) in
+    let number = ap (λ (v : View). v.number) c.in-Ok.ensures.gate ∙ c.in_ok-gate.ensures.gate.2 in
+    let there = first_stands c.in-Ok.node mid c.in-Ok.ensures.limits c.in-Ok.ensures.series number c.in-Ok.ensures.sessions are_scratch (c.in_ok-gate.ensures.rests told) in
     served_from view _ _ (g.H.Outside.state c.serve.new.host) c.serve.result (same_mark run) (record {
       done = c.serve.ensures.done told view there;
       kept = c.serve.ensures.kept told view there;
@@ -45,13 +45,24 @@ returns-clause-served g c told =
       worn = c.serve.ensures.worn told view there;
     })
 
-pub returns-clause-stands : goal.returns-clause-stands
-returns-clause-stands g c told =
+pub returns-in-Ok-clause-stands : goal.returns-in-Ok-clause-stands
+returns-in-Ok-clause-stands g c told =
     let old = g.H.Outside.state c.args.host.now in
     let mid = g.H.Outside.state c.make_store.new.disk in
     let run = c.make_store.ensures.passes told in
     let view = first_view scratch_limits in
-    let number = ap (λ (v : View). v.number) c.first_node.ensures.gate ∙ c.in_ok-gate.ensures.gate.2 in
-    let there = first_stands c.first_node.result mid c.first_node.ensures.limits c.first_node.ensures.series number c.first_node.ensures.session are_scratch (c.in_ok-gate.ensures.rests told) in
-    keeps_served view c.first_node.result old mid (g.H.Outside.state c.serve.new.host) (same_mark run) there (c.serve.ensures.moments told view there) run.later
+    let number = ap (λ (v : View). v.number) c.in-Ok.ensures.gate ∙ c.in_ok-gate.ensures.gate.2 in
+    let there = first_stands c.in-Ok.node mid c.in-Ok.ensures.limits c.in-Ok.ensures.series number c.in-Ok.ensures.sessions are_scratch (c.in_ok-gate.ensures.rests told) in
+    keeps_served view c.in-Ok.node old mid (g.H.Outside.state c.serve.new.host) (same_mark run) there (c.serve.ensures.moments told view there) run.later
     (making_still scratch_limits old mid run (λ free. disk_weaker (c.make_store.ensures.moments told (λ disk left. free_none disk (free disk left))) (making scratch_limits are_scratch)))
+
+pub returns-in-Err-clause-quiet : goal.returns-in-Err-clause-quiet
+returns-in-Err-clause-quiet g c told = quiet_passes (first_view scratch_limits) (c.make_store.ensures.passes told)
+
+pub returns-in-Err-clause-stands : goal.returns-in-Err-clause-stands
+returns-in-Err-clause-stands g c told =
+    let old = g.H.Outside.state c.args.host.now in
+    let new = g.H.Outside.state c.make_store.new.disk in
+    let run = c.make_store.ensures.passes told in
+    keeps_none (first_view scratch_limits) old new run.later
+    (making_still scratch_limits old new run (λ free. disk_weaker (c.make_store.ensures.moments told (λ disk left. free_none disk (free disk left))) (making scratch_limits are_scratch)))

@@ -8,7 +8,7 @@ use Rattle.ak_view.proofs.frame.put_series.Goals as goal
 
 pub returns : goal.returns
 returns c =
-    let name = c.as_slice-name.result.now in
+    let name = c.as_bytes-name.result.now in
     let points = c.as_slice-points.result.now in
     let all : List ℕ = flat_map point_bytes points in
     let count : List ℕ = low_bytes 4 (length points) ++ all in
@@ -16,5 +16,5 @@ returns c =
     joined c.extend.new.self (low_bytes 4 (length points)) all c.in_ok-put_number-2.ensures
     ∙ joined c.put_number.new.into name count c.in_ok-extend.ensures.ok
     ∙ joined c.args.into.now (low_bytes 2 (length name)) (name ++ count) c.in_ok-put_number.ensures
-    ∙ ap₂ (λ (n : List ℕ) (p : List Point). c.args.into.now ++ spelled n p) c.as_slice-name.ensures c.as_slice-points.ensures
+    ∙ ap₂ (λ (n : List ℕ) (p : List Point). c.args.into.now ++ spelled n p) (c.as_bytes-name.ensures.value ∙ c.as_str.ensures.value) c.as_slice-points.ensures
     )

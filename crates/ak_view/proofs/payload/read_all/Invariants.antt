@@ -1,6 +1,6 @@
-use Rattle.std.proofs.Common.{◌≡◌, ◌≤◌, ◌++◌, length, drop}
-use Rattle.std.specs.List.{flat_map, AllByRecursion}
-use Rattle.ak_view.specs.Payload.{IsSeries, series_bytes}
+use Rattle.std.proofs.Common.{◌≡◌, ◌≤◌, ◌++◌, length, drop, bytes_eq}
+use Rattle.std.specs.List.{flat_map, AllByRecursion, IsDistinct}
+use Rattle.ak_view.specs.Payload.{IsSeries, names_of, series_bytes}
 use Rattle.ak_view.proofs.payload.read_all.Given as goal
 
 abbrev pub invariant-loop : goal.invariant-loop
@@ -8,5 +8,7 @@ invariant-loop l = record {
   count : length l.all.items ≡ l.counter;
   within : l.at ≤ length l.from;
   each : AllByRecursion IsSeries l.all.items;
+  apart : IsDistinct bytes_eq (names_of l.all.items);
+  names : l.names ≡ names_of l.all.items;
   bytes : drop l.start l.from ≡ flat_map series_bytes l.all.items ++ drop l.at l.from;
 }

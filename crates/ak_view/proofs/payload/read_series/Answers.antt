@@ -1,4 +1,4 @@
-use Rattle.std.proofs.Common.{◌≡◌, ◌+◌, ◌-◌, ◌*◌, ◌++◌, ◌∙◌, ℕ, List, take, drop, length, ap, arith, length-append, length-drop}
+use Rattle.std.proofs.Common.{◌≡◌, ◌+◌, ◌-◌, ◌*◌, ◌++◌, ◌∙◌, ℕ, List, take, drop, length, IsUtf8, ap, ap₂, sym, subst, arith, length-append, length-drop}
 use Rattle.std.proofs.lemmas.List.{length-take-le}
 use Rattle.std.specs.List.{flat_map}
 use Rattle.ak_view.specs.Payload.{point_bytes}
@@ -16,14 +16,15 @@ returns c =
     let at = c.args.at in
     let n = c.in-Some.sizes.name in
     let p = c.in-Some.sizes.points in
-    let name = c.extend.new.self in
+    let name = c.push.new.self in
     let points = c.in_ok-points.points in
     let sizes = c.in-Some.ensures.sizes in
     let end = at + 2 + n + 4 + 16 * p in
+    let cut : take (at + 2 + n - (at + 2)) (drop (at + 2) from) ≡ take n (drop (at + 2) from) = ap (λ (m : ℕ). take m (drop (at + 2) from)) (omega arith) in
     let is : name ≡ take n (drop (at + 2) from) =
-    c.in_ok-extend.ensures.ok
-    ∙ ap (λ (l : List ℕ). l ++ take (at + 2 + n - (at + 2)) (drop (at + 2) from)) c.new-name.ensures
-    ∙ ap (λ (m : ℕ). take m (drop (at + 2) from)) (omega arith) in
+    c.in_ok-push.ensures.ok
+    ∙ ap₂ (λ (k l : List ℕ). k ++ l) c.new-name.ensures c.in-Ok.ensures.cases.0
+    ∙ cut in
     let long : length name ≡ n = ap length is ∙ length-take-le n (drop (at + 2) from) (omega (arith, length-drop (at + 2) from, sizes.2)) in
     let read = series_read from name points at n p end is long c.in_ok-points.ensures.bytes.0 c.in-Some.ensures.name c.in-Some.ensures.points c.in_ok-points.ensures.bytes.1 in
-    (record { name = omega (arith, long, sizes.0); points = omega (arith, c.in_ok-points.ensures.bytes.0, sizes.1); each = c.in_ok-points.ensures.each }, omega (arith, sizes.2), read)
+    (record { utf8 = subst IsUtf8 (sym is) (subst IsUtf8 cut c.in-Ok.ensures.cases.1); name = omega (arith, long, sizes.0); points = omega (arith, c.in_ok-points.ensures.bytes.0, sizes.1); each = c.in_ok-points.ensures.each }, omega (arith, sizes.2), read)

@@ -1,5 +1,0 @@
-use Rattle.ak_reader.proofs.Whole.{prefix_free}
-use Rattle.ak_reader.proofs.resp.one_spelling.Goals as goal
-
-pub returns : goal.returns
-returns c = λ a b x y m n h k e. prefix_free a b x y m n h k e

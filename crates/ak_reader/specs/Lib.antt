@@ -1,5 +1,0 @@
-pub mod Grammar
-pub mod Kinds
-pub mod Machine
-pub mod Rows
-pub mod Standing

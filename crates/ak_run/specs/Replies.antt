@@ -1,0 +1,113 @@
+-- What a session is told.
+use Rattle.std.specs.Prelude.{ℕ, ℤ, pos, negsuc, ◌+◌, ◌-◌, ◌^◌, ◌/◌, ◌%◌, ◌==◌, Bool, ◌||◌, if◌then◌else◌, List, [], ◌∷◌, ◌++◌, length, replicate, Option, Some, None, codes}
+use Rattle.std.specs.Fmt.{decimal}
+use Rattle.std.specs.List.{before_first, flat_map, list_any}
+use Rattle.std.specs.Str.{bytes_eq}
+use Rattle.ak_base.specs.declared.point.Point.{Point}
+use Rattle.ak_base.specs.declared.refusal.Refusal.{Refusal}
+use Rattle.ak_base.specs.Refusals.{code_of, refusal_text}
+use Rattle.ak_view.specs.declared.series.Series.{Series}
+use Rattle.ak_run.specs.declared.asked.Asked.{Asked}
+use Rattle.ak_run.specs.declared.asked.Asked.TheVariants.{Refused, Points, Rows, Flush}
+use Rattle.ak_run.specs.Contents.{Content, is_last, after}
+use Rattle.ak_run.specs.Points.{refusal_of}
+
+abbrev pub crlf : List ℕ
+crlf = 13 ∷ 10 ∷ []
+
+-- a refusal: its number and its text
+abbrev pub refusal_reply : Refusal → List ℕ
+refusal_reply r = codes "-ERR " ++ (decimal (code_of r) ++ (32 ∷ (refusal_text r ++ crlf)))
+
+-- a text as a bulk
+abbrev pub bulk_reply : List ℕ → List ℕ
+bulk_reply text = 36 ∷ (decimal (length text) ++ (crlf ++ (text ++ crlf)))
+
+-- ---- Values
+
+-- the digits without the zeros at their end
+abbrev pub trimmed : List ℕ → List ℕ
+trimmed [] = []
+trimmed (d ∷ ds) = if list_any (λ b. if b == 48 then Bool.false else Bool.true) (d ∷ ds) then d ∷ trimmed ds else []
+
+-- so many digits of a number below 10 ^ count
+abbrev pub padded : ℕ → ℕ → List ℕ
+padded count n = replicate (count - length (decimal n)) 48 ++ decimal n
+
+-- what stands behind the whole part: nothing, or a point and digits, the last of them not 0
+abbrev pub fraction_text : ℕ → ℕ → List ℕ
+fraction_text scale rest = if rest == 0 then [] else 46 ∷ trimmed (padded scale rest)
+
+abbrev pub size_text : ℕ → ℕ → List ℕ
+size_text scale u = decimal (u / 10 ^ scale) ++ fraction_text scale (u % 10 ^ scale)
+
+-- a value of so many units
+abbrev pub value_text : ℕ → ℤ → List ℕ
+value_text scale (pos n) = size_text scale n
+value_text scale (negsuc n) = 45 ∷ size_text scale (n + 1)
+
+-- ---- Rows
+
+-- each quote doubled
+abbrev pub doubled : List ℕ → List ℕ
+doubled name = flat_map (λ b. if b == 34 then 34 ∷ 34 ∷ [] else b ∷ []) name
+
+-- a name in a row: in quotes, each of its own doubled, where it has a comma or a quote
+abbrev pub name_text : List ℕ → List ℕ
+name_text name = if list_any (λ b. (b == 44) || (b == 34)) name then 34 ∷ (doubled name ++ 34 ∷ []) else name
+
+-- a row: the name, the time and the value
+abbrev pub row_text : ℕ → List ℕ → Point → List ℕ
+row_text scale name p = name_text name ++ (44 ∷ (decimal p.ts ++ (44 ∷ (value_text scale p.value ++ (10 ∷ [])))))
+
+-- the metric of a name: its bytes before the first space
+abbrev pub metric_of : List ℕ → List ℕ
+metric_of name = before_first (λ b. b == 32) name
+
+-- the rows of a series of this metric, one for each point
+abbrev pub series_rows : ℕ → List ℕ → Series → List ℕ
+series_rows scale metric s = if bytes_eq (metric_of s.name) metric then flat_map (row_text scale s.name) s.points else []
+
+-- the rows of all series of this metric, by order of first acceptance
+abbrev pub rows_of : ℕ → List Series → List ℕ → List ℕ
+rows_of scale ss metric = flat_map (series_rows scale metric) ss
+
+-- ---- Replies
+
+-- Accepted points answer nothing.
+abbrev pub points_reply : Option Refusal → List ℕ
+points_reply None = []
+points_reply (Some r) = refusal_reply r
+
+-- a flush is confirmed
+abbrev pub ok_reply : List ℕ
+ok_reply = codes "+OK" ++ crlf
+
+-- what a port is told at once, and the number of the view that this confirms: 0 where it confirms none
+pub record Reply : Type 0 where
+  pub port : ℕ
+  pub bytes : List ℕ
+  pub confirms : ℕ
+
+-- a reply that confirms no view
+abbrev pub plain : ℕ → List ℕ → Reply
+plain port bytes = record { port = port; bytes = bytes; confirms = 0 }
+
+abbrev pub answer_to : ℕ → Content → Asked → Reply
+answer_to port c (Refused r) = plain port (refusal_reply r)
+answer_to port c (Points names ts vs) = plain port (points_reply (refusal_of c.last.limits c.series names ts vs))
+answer_to port c (Rows metric) = plain port (bulk_reply (rows_of c.last.limits.scale c.series metric))
+answer_to port c Flush = if is_last c then plain port [] else record { port = port; bytes = ok_reply; confirms = c.last.number + 1 }
+
+-- Once the store is worn, nothing is answered.
+abbrev pub reply_to : ℕ → Content → Asked → Reply
+reply_to port c a = if c.worn then plain port [] else answer_to port c a
+
+abbrev pub replies_to : ℕ → Content → List Asked → List Reply
+replies_to port c [] = []
+replies_to port c (a ∷ more) = reply_to port c a ∷ replies_to port (after c a) more
+
+-- all the bytes that a port is told
+abbrev pub bytes_at : ℕ → List Reply → List ℕ
+bytes_at port [] = []
+bytes_at port (r ∷ rs) = (if r.port == port then r.bytes else []) ++ bytes_at port rs

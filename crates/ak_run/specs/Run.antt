@@ -1,0 +1,136 @@
+-- A run: what turns make of the world, and what they are answered.
+use Rattle.std.specs.Prelude.{ℕ, ◌≡◌, ◌≢◌, ◌↔◌, ◌⊎◌, ◌≤◌, Bool, true, false, if◌then◌else◌, List, [], ◌∷◌, ◌++◌, length, Option, Some, None}
+use Rattle.ak_base.specs.declared.refusal.Refusal.{Refusal}
+use Rattle.ak_base.specs.declared.refusal.Refusal.TheVariants.{Cut, TooMany}
+use Rattle.ak_host.specs.Marks.{Taken, piece, ended, idle, done}
+use Rattle.ak_resp.specs.declared.message.Message.{Message}
+use Rattle.ak_resp.specs.Grammar.{IsOpen, Splits}
+use Rattle.ak_resp.specs.Standing.{HasRefusal}
+use Rattle.ak_view.specs.Views.{View}
+use Rattle.ak_run.specs.declared.asked.Asked.{Asked}
+use Rattle.ak_run.specs.Asking.{AllAsk}
+use Rattle.ak_run.specs.Contents.{Content, opened, after_view, after_all}
+use Rattle.ak_run.specs.Replies.{Reply, plain, refusal_reply, replies_to, bytes_at}
+use Rattle.ak_run.specs.Sessions.{Session, stream_at, with_session, without, most_sessions}
+
+-- what the store holds, and the open sessions by rising port
+pub record World : Type 0 where
+  pub content : Content
+  pub sessions : List Session
+
+-- as a view is opened
+abbrev pub world_of : View → World
+world_of view = record { content = opened view; sessions = [] }
+
+-- one reply, which confirms no view
+abbrev pub to : ℕ → List ℕ → List Reply
+to port bytes = plain port bytes ∷ []
+
+-- The bytes meet the fault of the stream: it had none before.
+pub record MeetsFault (stream bytes : List ℕ) (f : Refusal) : Type 0 where
+  pub open_before : IsOpen stream
+  pub place : ℕ
+  pub refused : HasRefusal (stream ++ bytes) place f
+
+-- what a session is told of its fault, unless the store is worn
+abbrev pub fault_replies : ℕ → Bool → Option Refusal → List Reply
+fault_replies port worn None = []
+fault_replies port worn (Some f) = if worn then [] else to port (refusal_reply f)
+
+-- Bytes come behind the stream of a port. The messages of the longer stream that weren't messages before act now, in
+-- order. Then the stream's fault is answered, where it has one that it hadn't before.
+pub record PieceGives (port : ℕ) (content : Content) (stream bytes : List ℕ) (next : Content) (replies : List Reply) : Type 0 where
+  pub before : List Message
+  pub acting : List Message
+  pub rest : List ℕ
+  pub rest_after : List ℕ
+  pub was : Splits stream before rest
+  pub is : Splits (stream ++ bytes) (before ++ acting) rest_after
+  pub asked : List Asked
+  pub asks : AllAsk content.last.limits.scale acting asked
+  pub fault : Option Refusal
+  pub fault_is : (f : Refusal) → (fault ≡ Some f) ↔ MeetsFault stream bytes f
+  pub next_is : next ≡ after_all content asked
+  pub replies_are : replies ≡ replies_to port content asked ++ fault_replies port next.worn fault
+
+-- the stream has bytes after its last message, and no fault
+pub record IsCut (stream : List ℕ) : Type 0 where
+  pub open_stream : IsOpen stream
+  pub messages : List Message
+  pub rest : List ℕ
+  pub splits : Splits stream messages rest
+  pub some : rest ≢ []
+
+-- The end of a session answers where it is inside a message.
+abbrev pub EndGives : List ℕ → List ℕ → Type 0
+EndGives stream reply = (cut : Bool) × ((cut ≡ true) ↔ IsCut stream) × (reply ≡ (if cut then refusal_reply Cut else []))
+
+-- nothing changes, and this is told
+pub record OtherTurn (world next : World) (replies told : List Reply) : Type 0 where
+  pub same : next ≡ world
+  pub told_is : replies ≡ told
+
+-- the bytes of an open session, or of one that begins
+abbrev pub bytes_of : Option (List ℕ) → List ℕ
+bytes_of None = []
+bytes_of (Some stream) = stream
+
+-- a piece of a session that is open, or that begins with it
+pub record PieceTurn (world : World) (port : ℕ) (bytes : List ℕ) (next : World) (replies : List Reply) : Type 0 where
+  pub gives : PieceGives port world.content (bytes_of (stream_at world.sessions port)) bytes next.content replies
+  pub sessions_are : next.sessions ≡ with_session world.sessions (record { port = port; stream = bytes_of (stream_at world.sessions port) ++ bytes })
+
+-- a session would begin with the piece, and as many as may be are open
+pub record IsOneTooMany (world : World) (port : ℕ) : Type 0 where
+  pub new : stream_at world.sessions port ≡ None
+  pub full : most_sessions ≤ length world.sessions
+
+-- the end of a session
+pub record EndTurn (world : World) (port : ℕ) (stream : List ℕ) (next : World) (replies : List Reply) : Type 0 where
+  pub reply : List ℕ
+  pub gives : EndGives stream reply
+  pub content_is : next.content ≡ world.content
+  pub sessions_are : next.sessions ≡ without world.sessions port
+  pub told : replies ≡ to port reply
+
+abbrev pub EndActs : World → ℕ → Option (List ℕ) → World → List Reply → Type 0
+EndActs world port None next replies = OtherTurn world next replies []
+EndActs world port (Some stream) next replies = EndTurn world port stream next replies
+
+-- the ends of all these sessions, in order
+abbrev pub AllEnd : List Session → List Reply → Type 0
+AllEnd [] replies = replies ≡ []
+AllEnd (s ∷ ss) replies = (reply : List ℕ) × (others : List Reply) × EndGives s.stream reply × AllEnd ss others × (replies ≡ to s.port reply ++ others)
+
+-- All sessions end, and then a view is taken.
+pub record DoneTurn (world next : World) (replies : List Reply) : Type 0 where
+  pub ends : AllEnd world.sessions replies
+  pub content_is : next.content ≡ after_view world.content
+  pub sessions_are : next.sessions ≡ []
+
+-- One turn. A session opens with the first bytes on a port that has none. Where as many as may be are open, such bytes
+-- are refused and dropped. The end of a port without a session does nothing.
+abbrev pub Acts : World → Taken → World → List Reply → Type 0
+Acts world (piece port bytes) next replies =
+    (IsOneTooMany world port × OtherTurn world next replies (to port (refusal_reply TooMany)))
+    ⊎ ((¬ (IsOneTooMany world port)) × PieceTurn world port bytes next replies)
+Acts world (ended port) next replies = EndActs world port (stream_at world.sessions port) next replies
+Acts world idle next replies = OtherTurn world next replies []
+Acts world done next replies = DoneTurn world next replies
+
+-- one turn, which does nothing once the store is worn
+abbrev pub Gives : World → Taken → World → List Reply → Type 0
+Gives world turn next replies = ((world.content.worn ≡ true) × OtherTurn world next replies []) ⊎ ((world.content.worn ≡ false) × Acts world turn next replies)
+
+-- turns from a world on
+abbrev pub RunsFrom : World → List Taken → World → List Reply → Type 0
+RunsFrom world [] last replies = OtherTurn world last replies []
+RunsFrom world (turn ∷ turns) last replies = (next : World) × (first : List Reply) × (others : List Reply)
+    × Gives world turn next first × RunsFrom next turns last others × (replies ≡ first ++ others)
+
+-- These turns, from the opening of this view on, are answered so at this port.
+pub record AreAnswers (view : View) (turns : List Taken) (port : ℕ) (bytes : List ℕ) : Type 0 where
+  pub last : World
+  pub replies : List Reply
+  pub run : RunsFrom (world_of view) turns last replies
+  pub is : bytes ≡ bytes_at port replies

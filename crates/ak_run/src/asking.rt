@@ -1,0 +1,90 @@
+//! What a message asks for.
+ghost use Rattle.std.specs.Prelude.{◌≡◌, ◌≤◌, map, Some, Ok, IfOk};
+ghost use Rattle.ak_run.specs.Asking.{Asks, PutAsks, OnNames, OnTime};
+
+use crate::asked::Asked;
+use crate::queries::ask_query;
+use crate::times::read_put_time;
+use crate::values::read_values;
+use ak_base::{Refusal, Texts};
+use ak_names::{NameError, metrics, read_names};
+use ak_resp::{Message, Part};
+use std::alloc::{AllocError, Global};
+
+// What a put of these names and this time asks for.
+fn ask_at(
+    alloc: Global,
+    names: Texts,
+    time: u64,
+    values: &[Part],
+    scale: u32,
+) -> Result<Asked, AllocError>
+    requires { scale ≤ 9 }
+    ensures { IfOk result (λ asked. OnTime scale names (map (λ v. v.bytes) values.now) asked (Ok time)) }
+{
+    match read_values(alloc, values, scale)? {
+        Ok(values) => Ok(Asked::Points {
+            names,
+            time,
+            values,
+        }),
+        Err(refusal) => Ok(Asked::Refused(refusal)),
+    }
+}
+
+// What a put of these names asks for.
+fn ask_named(
+    alloc: Global,
+    names: Texts,
+    time: &[u8],
+    values: &[Part],
+    scale: u32,
+) -> Result<Asked, AllocError>
+    requires { scale ≤ 9 }
+    ensures { IfOk result (λ asked. OnNames scale time.now (map (λ v. v.bytes) values.now) asked (Some names)) }
+{
+    match read_put_time(time) {
+        Ok(time) => ask_at(alloc, names, time, values, scale),
+        Err(refusal) => Ok(Asked::Refused(refusal)),
+    }
+}
+
+// What a put asks for.
+fn ask_put(
+    alloc: Global,
+    name: &[u8],
+    time: &[u8],
+    values: &[Part],
+    scale: u32,
+) -> Result<Asked, AllocError>
+    requires { scale ≤ 9 }
+    ensures { IfOk result (λ asked. PutAsks scale name.now time.now (map (λ v. v.bytes) values.now) asked) }
+{
+    if values.len() as u64 != metrics(name) {
+        return Ok(Asked::Refused(Refusal::CountsDiffer));
+    }
+    match read_names(alloc, name) {
+        Ok(names) => ask_named(alloc, names, time, values, scale),
+        Err(NameError::Bad) => Ok(Asked::Refused(Refusal::BadName)),
+        Err(NameError::Memory) => Err(AllocError),
+    }
+}
+
+/// What a message asks for, where values have this scale: their unit is 10^-scale.
+pub fn ask(alloc: Global, message: &Message, scale: u32) -> Result<Asked, AllocError>
+    requires { scale ≤ 9 }
+    ensures { IfOk result (λ asked. Asks scale message.now asked) }
+{
+    match message {
+        Message::Put { name, time, values } => ask_put(
+            alloc,
+            name.bytes.as_slice(),
+            time.bytes.as_slice(),
+            values.as_slice(),
+            scale,
+        ),
+        Message::Query(json) => ask_query(alloc, json.bytes.as_slice()),
+        Message::Flush => Ok(Asked::Flush),
+        Message::Unknown => Ok(Asked::Refused(Refusal::NoControl)),
+    }
+}

@@ -1,0 +1,39 @@
+//! Laws of what messages ask for, and of runs.
+ghost use Rattle.std.specs.Prelude.{◌≡◌, ℕ, List};
+ghost use Rattle.std.specs.List.{AllByRecursion};
+ghost use Rattle.ak_host.specs.Marks.{Taken};
+ghost use Rattle.ak_resp.specs.declared.message.Message.{Message};
+ghost use Rattle.ak_view.specs.Views.{View};
+ghost use Rattle.ak_run.specs.declared.asked.Asked.{Asked};
+ghost use Rattle.ak_run.specs.Asking.{Asks};
+ghost use Rattle.ak_run.specs.Contents.{views_of};
+ghost use Rattle.ak_run.specs.Keeping.{ArePrefixes};
+ghost use Rattle.ak_run.specs.Replies.{Reply};
+ghost use Rattle.ak_run.specs.Run.{World, world_of, RunsFrom, AreAnswers};
+
+/// A message asks for one thing at most.
+pub fn one_asking()
+    ensures { (scale : ℕ) (m : Message) (a b : Asked) → Asks scale m a → Asks scale m b → a ≡ b }
+{}
+
+/// Every message has what it asks for, which may be a refusal.
+pub fn every_asking()
+    ensures { (scale : ℕ) (m : Message) → (a : Asked) × Asks scale m a }
+{}
+
+/// From one view on, turns lead to one world, and are answered in one way.
+pub fn one_run()
+    ensures worlds { (view : View) (turns : List Taken) (v w : World) (a b : List Reply) → RunsFrom (world_of view) turns v a → RunsFrom (world_of view) turns w b → (v ≡ w) × (a ≡ b) }
+    ensures answers { (view : View) (turns : List Taken) (port : ℕ) (a b : List ℕ) → AreAnswers view turns port a → AreAnswers view turns port b → a ≡ b }
+{}
+
+/// From each view on, each list of turns has answers.
+pub fn every_run()
+    ensures { (view : View) (turns : List Taken) → (last : World) × (replies : List Reply) × RunsFrom (world_of view) turns last replies }
+{}
+
+/// For each view that a run takes or opens, the points of each series are a prefix of those accepted by then.
+pub fn views_hold_prefixes()
+    ensures { (view : View) (turns : List Taken) (last : World) (replies : List Reply) → RunsFrom (world_of view) turns last replies
+        → AllByRecursion (λ v. ArePrefixes v.series last.content.series) (views_of last.content) }
+{}

@@ -1,0 +1,20 @@
+//! A run: what messages ask for, what is made of it, and what sessions are told.
+#![tactic(auto)]
+
+mod asked;
+mod asking;
+mod laws;
+mod queries;
+mod replies;
+mod store;
+mod times;
+mod values;
+
+pub use asked::{Asked, Values};
+pub use asking::ask;
+pub use laws::{every_asking, every_run, one_asking, one_run, views_hold_prefixes};
+pub use replies::write_refusal;
+pub use store::Store;
+
+#[cfg(test)]
+mod tests;

@@ -1,7 +1,0 @@
-use Rattle.ak_top.specs.Run.{world_of}
-use Rattle.ak_top.proofs.Growing.{orderly_opened}
-use Rattle.ak_top.proofs.Gives.{run_orderly}
-use Rattle.ak_top.proofs.laws.views_hold_prefixes.Goals as goal
-
-pub returns : goal.returns
-returns c view turns last replies run = run_orderly turns (world_of view) last replies run (orderly_opened view)
