@@ -1,0 +1,12 @@
+pub mod Apart
+pub mod Behind
+pub mod Closing
+pub mod Contents
+pub mod Fronts
+pub mod Groups
+pub mod Joining
+pub mod Lawful
+pub mod Levels
+pub mod Rooms
+pub mod Sizes
+pub mod Spellings
