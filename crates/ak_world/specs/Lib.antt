@@ -1,0 +1,6 @@
+pub mod Leaves
+pub mod Views
+pub mod Worlds
+pub mod Steps
+pub mod Puts
+pub mod Valid
