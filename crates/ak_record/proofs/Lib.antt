@@ -1,0 +1,4 @@
+pub mod Frames
+pub mod Newest
+pub mod Records
+pub mod Refusals
