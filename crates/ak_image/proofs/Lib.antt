@@ -1,0 +1,10 @@
+pub mod Agreeing
+pub mod Parting
+pub mod Places
+pub mod Scanning
+pub mod Standing
+pub mod StepBlocks
+pub mod StepChains
+pub mod StepLaid
+pub mod StepRows
+pub mod StepScans

@@ -1,0 +1,5 @@
+use Rattle.ak_image.proofs.StepLaid.{ordinal_laid}
+use Rattle.ak_image.proofs.steps.laid_with_ordinal.Goals as goal
+
+pub returns : goal.returns
+returns c = ordinal_laid
