@@ -1,0 +1,5 @@
+pub mod Bodies
+pub mod Elsewhere
+pub mod Frames
+pub mod Records
+pub mod Stores
