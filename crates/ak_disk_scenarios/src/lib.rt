@@ -1,4 +1,5 @@
-//! Tests that cross the crates of the disk, over a host in memory: records that are opened, and leaves that are read.
+//! Tests that cross the crates of the disk, over a host in memory: records that are opened, stores that are
+//! made, and leaves that are read.
 #![tactic(auto)]
 
 #[cfg(test)]
@@ -7,3 +8,5 @@ mod disk;
 mod leaves;
 #[cfg(test)]
 mod records;
+#[cfg(test)]
+mod stores;
