@@ -18,7 +18,7 @@ use Rattle.ak_meta.specs.Leaves.{first_content}
 use Rattle.ak_meta.proofs.Lawful.{first_lawful}
 use Rattle.ak_record.specs.Stops.{AreShut, IsNoStore}
 use Rattle.ak_record.specs.Records.{HasNewest, Rests, frame_for, frame_bytes}
-use Rattle.ak_checkpoint.specs.Making.{AreEmpty}
+use Rattle.ak_checkpoint.specs.Making.{AreEmpty, IsMade}
 use Rattle.ak_checkpoint.specs.Saving.{Saving, IsSavedOver, IsSaving}
 
 -- a file more
@@ -147,10 +147,14 @@ pub first_rests : (slot : ℕ) (host : HostState) → file_at host.files 0 ≡ z
 first_rests slot host zeros stable disk left = zeros_none slot disk (stable disk left ∙ zeros)
 
 -- while the first view is saved
-pub first_left : (slot file : ℕ) (frame : Frame) (host : HostState) → Rests slot None host → (disk : Files) → IsSaving slot file None frame host disk → IsNoStore disk ⊎ HasNewest slot (Some frame) disk
-first_left slot file frame host rests disk (inl left) = inl (none_no_store slot disk (rests disk left))
-first_left slot file frame host rests disk (inr (over, inl has)) = inl (none_no_store slot disk has)
-first_left slot file frame host rests disk (inr (over, inr has)) = inr has
+pub first_left : (limits : Limits) (file : ℕ) (host : HostState) → Rests limits.slot None host → AreEmpty limits host
+    → (disk : Files) → IsSaving limits.slot file None (frame_for 1 (first_content limits)) host disk → IsNoStore disk ⊎ IsMade limits disk
+first_left limits file host rests empty disk (inl left) = inl (none_no_store limits.slot disk (rests disk left))
+first_left limits file host rests empty disk (inr (over, inl has)) = inl (none_no_store limits.slot disk has)
+first_left limits file host rests empty disk (inr (over, inr has)) = inr (record {
+  newest = has;
+  zeros = λ k least most. over.elsewhere.others k (λ is. absurd (omega arith)) ∙ empty.stable k least most over.before over.left ∙ empty.zeros k least most;
+})
 
 -- the volumes, once it is saved
 pub still_empty : (limits : Limits) (file : ℕ) (old new : HostState) → SameElsewhere old.files new.files → ((disk : Files) → LeavesNow new disk → IsSavedOver file old disk)
@@ -178,16 +182,16 @@ first_begun limits view begun is gate =
     is ∙ ap (λ (v : View). record { gate = v; pending = true; number = v.number + 1; bytes = frame_bytes (frame_for (v.number + 1) (first_content limits)); file = 1 }) gate
 
 module _ (limits : Limits) (begun : Saving) (mid new : HostState) (are : AreLimits limits) (is : begun ≡ first_saving limits) (rests : Rests limits.slot None mid) where
-  pub first_passes : (old : HostState) → DiskPasses IsNoStore old mid
+  pub first_passes : (old : HostState) → AreEmpty limits mid → DiskPasses IsNoStore old mid
       → ((before : Option Frame) (d : Content) → Rests begun.gate.slot before mid → IsMeta d → d.limits.slot ≡ begun.gate.slot → begun.bytes ≡ frame_bytes (frame_for begun.number d)
       → DiskPasses (IsSaving begun.gate.slot begun.file before (frame_for begun.number d) mid) mid new)
-      → DiskPasses (λ left. IsNoStore left ⊎ HasNewest limits.slot (Some (frame_for 1 (first_content limits))) left) old new
-  first_passes old so_far moments =
+      → DiskPasses (λ left. IsNoStore left ⊎ IsMade limits left) old new
+  first_passes old empty so_far moments =
       let content = first_content limits in
       let run = subst (λ (s : Saving). (before : Option Frame) (d : Content) → Rests s.gate.slot before mid → IsMeta d → d.limits.slot ≡ s.gate.slot → s.bytes ≡ frame_bytes (frame_for s.number d)
       → DiskPasses (IsSaving s.gate.slot s.file before (frame_for s.number d) mid) mid new) is moments in
-      disk_goes_on {P = λ left. IsNoStore left ⊎ HasNewest limits.slot (Some (frame_for 1 content)) left} (disk_weaker so_far (λ disk none. inl none))
-      (run None content rests (first_lawful limits are) refl refl) (first_left limits.slot 1 (frame_for 1 content) mid rests)
+      disk_goes_on {P = λ left. IsNoStore left ⊎ IsMade limits left} (disk_weaker so_far (λ disk none. inl none))
+      (run None content rests (first_lawful limits are) refl refl) (first_left limits 1 mid rests empty)
 
   pub first_now : ((before : Option Frame) (d : Content) → Rests begun.gate.slot before mid → IsMeta d → d.limits.slot ≡ begun.gate.slot → begun.bytes ≡ frame_bytes (frame_for begun.number d)
       → (left : Files) → LeavesNow new left → IsSavedOver begun.file mid left × HasNewest begun.gate.slot (Some (frame_for begun.number d)) left)

@@ -9,7 +9,7 @@ ghost use Rattle.ak_gate.specs.Opening.{IsWhole};
 ghost use Rattle.ak_meta.specs.Leaves.{first_content};
 ghost use Rattle.ak_record.specs.Records.{HasNewest, Rests, frame_for, frame_bytes};
 ghost use Rattle.ak_record.specs.Stops.{IsNoStore, IsTaken, IsDiskStop, IsMakeStop, AreMade};
-ghost use Rattle.ak_checkpoint.specs.Making.{AreEmpty};
+ghost use Rattle.ak_checkpoint.specs.Making.{AreEmpty, IsMade};
 
 use crate::checkpoint::Checkpoint;
 use ak_base::{Limits, Stop};
@@ -132,8 +132,7 @@ pub fn make_store<D: Disk>(
     ensures empty { D.tells → IfOk result (λ store. AreEmpty limits.now (D.state disk.new)) }
     // Until it is done, a stop leaves no store, or the first view.
     ensures moments { D.tells → ((left : Files) → LeavesNow (D.state disk.old) left → IsNoStore left)
-        → DiskPasses (λ left. IsNoStore left ⊎ HasNewest limits.now.slot (Some (frame_for 1 (first_content limits.now))) left)
-        (D.state disk.old) (D.state disk.new) }
+        → DiskPasses (λ left. IsNoStore left ⊎ IsMade limits.now left) (D.state disk.old) (D.state disk.new) }
     // Whatever the disk held before, only the disk changes.
     ensures passes { D.tells → DiskPasses (λ left. Unit {0}) (D.state disk.old) (D.state disk.new) }
     ensures later { (D.state disk.old).disk_faults ≤ (D.state disk.new).disk_faults }

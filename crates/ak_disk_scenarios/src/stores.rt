@@ -18,7 +18,7 @@ const LIMITS: Limits = Limits {
 };
 
 // The number and the slot of the newest record, and its payload's length.
-fn opened(alloc: Global, disk: &mut MemHost) -> Result<(u64, u32, usize), Stop> {
+pub(crate) fn opened(alloc: Global, disk: &mut MemHost) -> Result<(u64, u32, usize), Stop> {
     let (gate, payload) = Gate::open(alloc, disk)?;
     Ok((gate.number(), gate.newest(), payload.as_slice().len()))
 }

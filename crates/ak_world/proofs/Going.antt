@@ -15,7 +15,7 @@ use Rattle.ak_world.proofs.ContentsOfLeaves.{after}
 -- ---- Joining
 
 -- the last of these views, or this one where there is none
-abbrev final : View → List View → View
+abbrev pub final : View → List View → View
 final v [] = v
 final v (x ∷ xs) = final x xs
 
@@ -32,7 +32,7 @@ last_final : (v : View) (w : World) → final v (views_of w) ≡ w.last
 last_final v w = final_push v w.earlier w.last
 
 -- the last view of the new world is the last of the others, or that of the old one
-last_is : (u v : World) → (goes : Goes u v) → final u.last goes.more ≡ v.last
+pub last_is : (u v : World) → (goes : Goes u v) → final u.last goes.more ≡ v.last
 last_is u v goes = ap (λ (x : View). final x goes.more) (sym (last_final u.last u)) ∙ sym (final_more u.last (views_of u) goes.more) ∙ ap (final u.last) (sym goes.views) ∙ last_final u.last v
 
 -- others behind those that rise from a view
@@ -51,7 +51,7 @@ joined u v w first second = record {
 -- ---- Views
 
 -- no view is taken
-same : (u v : World) → v.opened ≡ u.opened → views_of v ≡ views_of u → Goes u v
+pub same : (u v : World) → v.opened ≡ u.opened → views_of v ≡ views_of u → Goes u v
 same u v opening e = record { opened = opening; more = []; views = e ∙ sym (append-nil (views_of u)); numbers = tt }
 
 either : (u v w : World) (b : Bool) → Goes u v → Goes u w → Goes u (if b then v else w)

@@ -25,7 +25,7 @@ held_one : (lo : ℕ) (o : SeriesMeta) (s : Series) → IsHeld lo (known_of o s)
 held_one lo o s = record { name = refl; had = s.closed; later = []; closed = sym (append-nil s.closed); count = omega arith; kept_is = refl }
 
 -- a view that is taken now holds all that is live
-held_now : (lo : ℕ) (opened : List SeriesMeta) (ss : List Series) → AreHeld lo (all_known opened ss) (map (λ (s : Series). leaves_from lo s.closed) ss) ss
+pub held_now : (lo : ℕ) (opened : List SeriesMeta) (ss : List Series) → AreHeld lo (all_known opened ss) (map (λ (s : Series). leaves_from lo s.closed) ss) ss
 held_now lo opened [] = refl
 held_now lo [] (s ∷ ss) = (held_one lo (unknown s.name) s, held_now lo [] ss)
 held_now lo (o ∷ opened) (s ∷ ss) = (held_one lo o s, held_now lo opened ss)
@@ -170,11 +170,11 @@ filled_live o blocks a live =
 -- ---- Views of series that grow
 
 -- a series of the same name, with so many closed leaves more as its count tells
-record Grows (s t : Series) : Type 0 where
-  name : t.name ≡ s.name
-  more : List Leaf
-  closed : t.closed ≡ s.closed ++ more
-  count : t.leaves ≡ s.leaves + length more
+pub record Grows (s t : Series) : Type 0 where
+  pub name : t.name ≡ s.name
+  pub more : List Leaf
+  pub closed : t.closed ≡ s.closed ++ more
+  pub count : t.leaves ≡ s.leaves + length more
 
 grown : (lo : ℕ) (known : SeriesMeta) (kept : List Leaf) (s t : Series) → Grows s t → IsHeld lo known kept s → IsHeld lo known kept t
 grown lo known kept s t grows held = record {
@@ -193,7 +193,7 @@ held_more lo (known ∷ all) (leaves ∷ kept) [] n f grows held = held
 held_more lo (known ∷ all) (leaves ∷ kept) (s ∷ ss) zero f grows held = (grown lo known leaves s (f s) (grows s) held.0, held.1)
 held_more lo (known ∷ all) (leaves ∷ kept) (s ∷ ss) (suc n) f grows held = (held.0, held_more lo all kept ss n f grows held.1)
 
-views_more : (views : List View) (ss : List Series) (n : ℕ) (f : Series → Series) → ((s : Series) → Grows s (f s)) → AllByRecursion (IsPrefix ss) views → AllByRecursion (IsPrefix (changed ss n f)) views
+pub views_more : (views : List View) (ss : List Series) (n : ℕ) (f : Series → Series) → ((s : Series) → Grows s (f s)) → AllByRecursion (IsPrefix ss) views → AllByRecursion (IsPrefix (changed ss n f)) views
 views_more views ss n f grows held = each_taken (IsPrefix ss) (IsPrefix (changed ss n f)) (λ view here. held_more view.content.ordinals.lo view.content.series view.kept ss n f grows here) views held
 
 -- ---- Open leaves
@@ -308,7 +308,7 @@ held_of : (lo : ℕ) (all : List SeriesMeta) (kept : List (List Leaf)) (b : Bool
 held_of lo all kept true ss ts first second = first
 held_of lo all kept false ss ts first second = second
 
-named_held : (lo : ℕ) (all : List SeriesMeta) (kept : List (List Leaf)) (ss : List Series) (name : List ℕ) → AreHeld lo all kept ss → AreHeld lo all kept (with_name ss name)
+pub named_held : (lo : ℕ) (all : List SeriesMeta) (kept : List (List Leaf)) (ss : List Series) (name : List ℕ) → AreHeld lo all kept ss → AreHeld lo all kept (with_name ss name)
 named_held lo [] kept ss name held = held
 named_held lo (known ∷ all) [] ss name held = absurd held
 named_held lo (known ∷ all) (leaves ∷ kept) [] name held = absurd held

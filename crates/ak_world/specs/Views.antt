@@ -1,5 +1,5 @@
 -- Views: what is saved of a store at once.
-use Rattle.std.specs.Prelude.{ℕ, zero, suc, ◌+◌, ◌-◌, ◌*◌, ◌/◌, ◌^◌, ◌==◌, nat_lt, if◌then◌else◌, List, [], ◌∷◌}
+use Rattle.std.specs.Prelude.{ℕ, zero, suc, ◌+◌, ◌-◌, ◌*◌, ◌/◌, ◌^◌, ◌==◌, ◌≡◌, ◌⊎◌, nat_lt, if◌then◌else◌, List, [], ◌∷◌}
 use Rattle.ak_base.specs.Points.{last_ts_from}
 use Rattle.ak_base.specs.declared.limits.Limits.{Limits}
 use Rattle.ak_base.specs.declared.point.Addr.{Addr}
@@ -18,6 +18,11 @@ pub record View : Type 0 where
 -- the first view of a store: it has no series
 abbrev pub first_view : Limits → View
 first_view l = record { number = 1; content = first_content l; kept = [] }
+
+-- the view is one of these
+abbrev pub IsIn : View → List View → Type 0
+IsIn view [] = ⊥
+IsIn view (v ∷ vs) = (view ≡ v) ⊎ IsIn view vs
 
 -- the address that names no block
 abbrev pub none : ℕ

@@ -28,7 +28,8 @@ returns-in-Err-finish-clause-moments g c told none =
     let so_far = subst (λ d. DiskPasses IsNoStore old (g.D.Outside.state d)) (sym c.first-gate.ensures.same) made in
     let rests = subst (λ d. Rests slot None (g.D.Outside.state d)) (sym c.first-gate.ensures.same) (first_rests slot (g.D.Outside.state c.make_files.new.disk) (c.in_ok-make_files.ensures.zeros told) (c.in_ok-make_files.ensures.stable told)) in
     first_passes c.args.limits.now c.in-Ok.begun.1 (g.D.Outside.state c.first-gate.new.disk) (g.D.Outside.state c.finish.new.disk) c.requires
-    (first_begun c.args.limits.now c.first-gate.result c.in-Ok.begun.1 c.in-Ok.ensures.checkpoint c.first-gate.ensures.gate) rests old so_far (c.finish.ensures.moments told)
+    (first_begun c.args.limits.now c.first-gate.result c.in-Ok.begun.1 c.in-Ok.ensures.checkpoint c.first-gate.ensures.gate) rests old
+    (subst (λ d. AreEmpty c.args.limits.now (g.D.Outside.state d)) (sym c.first-gate.ensures.same) (c.in_ok-make_files.ensures.empty told)) so_far (c.finish.ensures.moments told)
 
 pub returns-in-Ok-finish-clause-moments : goal.returns-in-Ok-finish-clause-moments
 returns-in-Ok-finish-clause-moments g c told none =
@@ -39,7 +40,8 @@ returns-in-Ok-finish-clause-moments g c told none =
     let so_far = subst (λ d. DiskPasses IsNoStore old (g.D.Outside.state d)) (sym c.first-gate.ensures.same) made in
     let rests = subst (λ d. Rests slot None (g.D.Outside.state d)) (sym c.first-gate.ensures.same) (first_rests slot (g.D.Outside.state c.make_files.new.disk) (c.in_ok-make_files.ensures.zeros told) (c.in_ok-make_files.ensures.stable told)) in
     first_passes c.args.limits.now c.in-Ok.begun.1 (g.D.Outside.state c.first-gate.new.disk) (g.D.Outside.state c.finish.new.disk) c.requires
-    (first_begun c.args.limits.now c.first-gate.result c.in-Ok.begun.1 c.in-Ok.ensures.checkpoint c.first-gate.ensures.gate) rests old so_far (c.finish.ensures.moments told)
+    (first_begun c.args.limits.now c.first-gate.result c.in-Ok.begun.1 c.in-Ok.ensures.checkpoint c.first-gate.ensures.gate) rests old
+    (subst (λ d. AreEmpty c.args.limits.now (g.D.Outside.state d)) (sym c.first-gate.ensures.same) (c.in_ok-make_files.ensures.empty told)) so_far (c.finish.ensures.moments told)
 
 pub returns-in-Ok-finish-clause-rests : goal.returns-in-Ok-finish-clause-rests
 returns-in-Ok-finish-clause-rests g c told disk left =

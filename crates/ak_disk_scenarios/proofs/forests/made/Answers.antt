@@ -1,0 +1,7 @@
+use Rattle.std.proofs.Common.{sym, subst}
+use Rattle.ak_meta.proofs.Lawful.{first_lawful}
+use Rattle.ak_meta.specs.Contents.{IsMeta}
+use Rattle.ak_disk_scenarios.proofs.forests.made.Goals as goal
+
+pub new-requires-clause-rules : goal.new-requires-clause-rules
+new-requires-clause-rules g c = subst IsMeta (sym c.in-Ok.ensures.meta) (first_lawful c.args.limits.now c.requires)

@@ -1,0 +1,14 @@
+pub mod AddingSeries
+pub mod Appended
+pub mod Closed
+pub mod Entering
+pub mod Framing
+pub mod Heads
+pub mod Joining
+pub mod Outside
+pub mod Placed
+pub mod Pooling
+pub mod Saved
+pub mod Stored
+pub mod Telling
+pub mod Wanted

@@ -1,0 +1,34 @@
+use Rattle.std.proofs.Common.{◌≡◌, ◌+◌, arith, length, slice_index, Result, Ok, Err, OnOk}
+use Rattle.ak_host.specs.Files.{file_at}
+use Rattle.ak_host.proofs.Passing.{disk_starts}
+use Rattle.ak_tree.specs.Writing.{LeavesOutside}
+use Rattle.ak_tree.proofs.Outside.{long_as_told, group_written, leaves_on, leaves_then}
+use Rattle.ak_tree.proofs.writing.write_group.Goals as goal
+
+both_ok : {T E A B C : Type 0} (r : Result T E) → OnOk r A → OnOk r B → (A → B → C) → OnOk r C
+both_ok (Ok x) one two follows = follows one two
+both_ok (Err e) one two follows = tt
+
+pub returns-in_err-write-clause-moments : goal.returns-in_err-write-clause-moments
+returns-in_err-write-clause-moments g c told =
+    let old = g.D.Outside.state c.args.disk.now in
+    leaves_on c.args.file c.args.index (1 + c.args.others) c.args.index old old (g.D.Outside.state c.write.new.self) (omega arith) (omega arith)
+    (disk_starts (LeavesOutside c.args.file c.args.index (1 + c.args.others) old) old) (c.write.ensures.moments told)
+
+pub returns-clause-files : goal.returns-clause-files
+returns-clause-files g c told =
+    let old = g.D.Outside.state c.args.disk.now in
+    let mid = g.D.Outside.state c.write.new.self in
+    let new = g.D.Outside.state c.write_zeros.new.disk in
+    let long : length (file_at old.files c.args.file) ≡ slice_index old.sizes c.args.file = long_as_told old.files old.sizes c.args.file (g.met.D.Disk.sized told c.args.disk.now) in
+    both_ok c.write_zeros.result (c.write_zeros.ensures.outside told) (c.write_zeros.ensures.zeros told) (λ outside zeros.
+    group_written c.args.file c.args.index c.args.others old.files mid.files new.files c.args.first.now (omega (arith, long, c.requires.index)) (c.in_ok-write.ensures.files told) outside zeros)
+
+pub returns-clause-moments : goal.returns-clause-moments
+returns-clause-moments g c told =
+    let old = g.D.Outside.state c.args.disk.now in
+    let mid = g.D.Outside.state c.write.new.self in
+    let first = leaves_on c.args.file c.args.index (1 + c.args.others) c.args.index old old mid (omega arith) (omega arith)
+    (disk_starts (LeavesOutside c.args.file c.args.index (1 + c.args.others) old) old) (c.write.ensures.moments told) in
+    leaves_then c.args.file c.args.index (1 + c.args.others) (c.args.index + 1) c.args.others old mid (g.D.Outside.state c.write_zeros.new.disk) (omega arith) (omega arith)
+    first (c.write_zeros.ensures.moments told)

@@ -1,0 +1,5 @@
+pub mod Stops
+pub mod Writing
+pub mod Storing
+pub mod Standing
+pub mod Adding
