@@ -53,11 +53,12 @@ gives '+cpu\n' '-ERR 13 bad line end at 4\r\n' 0
 gives '$65537\r\n' '-ERR 14 long bulk at 5\r\n' 0
 gives '+cpu\r\n*' '-ERR 15 wrong shape at 6\r\n' 0
 gives '+cpu\r\n:100\r\n:5\r\n+!flush\r\n' '+OK\r\n' 0
-gives "$(for time in $(seq 4093); do printf '+cpu\\r\\n:%d\\r\\n:1\\r\\n' "$time"; done)" \
-  '-ERR 26 metadata full, need 65545 room 65536\r\n' 0
 gives '' '' 0
 # a store in a directory: made, served, served again, and killed while it waits for more
 d=$(mktemp -d)
+gives '' '' 0 create "$d/f" --volumes 2 --blocks 64 --slot 1
+gives "$(for host in $(seq 10 44); do printf '+cpu host=%d\\r\\n:1\\r\\n:1\\r\\n' "$host"; done)" \
+  '-ERR 26 metadata full, need 4159 room 4096\r\n' 0 run "$d/f"
 gives '' '' 0 create "$d/d"
 gives '+cpu host=a\r\n:100\r\n:5\r\n+!flush\r\n' '+OK\r\n' 0 run "$d/d"
 gives "$query" '$17\r\ncpu host=a,100,5\n\r\n' 0 run "$d/d"

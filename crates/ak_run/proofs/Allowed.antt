@@ -1,5 +1,5 @@
 -- What a message asks for can be taken.
-use Rattle.std.proofs.Common.{ℕ, suc, ◌≡◌, ◌+◌, ◌==◌, inl, inr, ℤ, List, [], ◌∷◌, map, length, Some, None, Result, Ok, Err, sym, ◌∙◌, ap, subst, arith}
+use Rattle.std.proofs.Common.{ℕ, suc, ◌≡◌, ◌+◌, ◌==◌, inl, inr, ℤ, List, [], ◌∷◌, map, length, Some, None, Result, Ok, Err, IfOk, sym, ◌∙◌, ap, subst, arith}
 use Rattle.std.specs.List.{count_by}
 use Rattle.std.proofs.lemmas.List.{length-map}
 use Rattle.std.proofs.lemmas.List.Splits.{length-slice_split}
@@ -11,6 +11,7 @@ use Rattle.ak_run.specs.declared.asked.Asked.{Asked}
 use Rattle.ak_run.specs.declared.asked.Asked.TheVariants.{Refused}
 use Rattle.ak_run.specs.Asking.{Asks, PutAsks, QueryAsks, OnTime, OnValues, HaveValues, ValuesGive}
 use Rattle.ak_run.specs.Fitting.{IsAllowed}
+use Rattle.ak_run.proofs.Canonical.{names_canonical}
 
 refused_allowed : (asked : Asked) (r : Refusal) → asked ≡ Refused r → IsAllowed asked
 refused_allowed asked r is = subst IsAllowed (sym is) tt
@@ -30,7 +31,7 @@ names_many text names d =
 on_values : (scale : ℕ) (text : List ℕ) (names texts : List (List ℕ)) (ts : ℕ) (asked : Asked) (vs : Result (List ℤ) Refusal) → DoesName text names
     → length texts ≡ metric_count (words_of text) → ValuesGive scale texts vs → asked ≡ OnValues names ts vs → IsAllowed asked
 on_values scale text names texts ts asked (Ok vs) d many gives is =
-    subst IsAllowed (sym is) (omega (arith, values_many scale texts vs gives.0, names_many text names d, many), d.named.short)
+    subst IsAllowed (sym is) (omega (arith, values_many scale texts vs gives.0, names_many text names d, many), names_canonical text names d)
 on_values scale text names texts ts asked (Err e) d many gives is = refused_allowed asked e is
 
 on_time : (scale : ℕ) (text : List ℕ) (names texts : List (List ℕ)) (asked : Asked) (ts : Result ℕ Refusal) → DoesName text names
@@ -42,6 +43,10 @@ put_allowed : (scale : ℕ) (name time : List ℕ) (values : List (List ℕ)) (a
 put_allowed scale name time values asked (inl differ) = refused_allowed asked _ differ.1
 put_allowed scale name time values asked (inr (many, None, named, is)) = refused_allowed asked _ is
 put_allowed scale name time values asked (inr (many, Some names, named, (ts, gives, on))) = on_time scale name names values asked ts named many on
+
+pub put_result : {E : Type 0} (scale : ℕ) (name time : List ℕ) (values : List (List ℕ)) (r : Result Asked E) → IfOk r (λ asked. PutAsks scale name time values asked) → IfOk r (λ asked. IsAllowed asked)
+put_result scale name time values (Ok asked) is = put_allowed scale name time values asked is
+put_result scale name time values (Err e) is = tt
 
 query_allowed : (text : List ℕ) (asked : Asked) → QueryAsks text asked → IsAllowed asked
 query_allowed text asked (inl (metric, selected, text_is, is)) = subst IsAllowed (sym is) tt

@@ -10,10 +10,11 @@ use Rattle.ak_resp.proofs.Readers.{reads_on, starts}
 use Rattle.ak_resp.proofs.Rows.{one_split, one_refusal}
 use Rattle.ak_run.specs.declared.asked.Asked.{Asked}
 use Rattle.ak_run.specs.Asking.{AllAsk}
-use Rattle.ak_run.specs.Contents.{Content, after_all}
+use Rattle.ak_run.specs.Contents.{after_all}
 use Rattle.ak_run.specs.Replies.{Reply, refusal_reply, replies_to}
 use Rattle.ak_run.specs.Run.{MeetsFault, PieceGives, IsCut, EndGives, fault_replies}
 use Rattle.ak_run.proofs.EveryAsking.{every_all}
+use Rattle.ak_world.specs.Worlds.{World as Store, limits_of}
 
 -- ---- Streams
 
@@ -65,7 +66,7 @@ fault_met r s row bytes ms ns false was_is first last f = (
 
 -- ---- Pieces
 
-pub piece_gives : (port : ℕ) (content : Content) (r s : Resp) (row bytes : List ℕ) (ms acting : List Message) (asked : List Asked) → AllAsk content.last.limits.scale acting asked
+pub piece_gives : (port : ℕ) (content : Store) (r s : Resp) (row bytes : List ℕ) (ms acting : List Message) (asked : List Asked) → AllAsk (limits_of content).scale acting asked
     → StandsFor r row ms → StandsFor s (row ++ bytes) (ms ++ acting)
     → PieceGives port content row bytes (after_all content asked) (replies_to port content asked ++ fault_replies port (after_all content asked).worn (fault_from (is_faulted r) (refusal_of s)))
 piece_gives port content r s row bytes ms acting asked asks first last = record {
@@ -84,16 +85,16 @@ piece_gives port content r s row bytes ms acting asked asks first last = record 
 }
 
 -- what a piece gives
-pub record SomePiece (port : ℕ) (content : Content) (stream bytes : List ℕ) : Type 0 where
-  pub next : Content
+pub record SomePiece (port : ℕ) (content : Store) (stream bytes : List ℕ) : Type 0 where
+  pub next : Store
   pub replies : List Reply
   pub gives : PieceGives port content stream bytes next replies
 
-pub some_piece : (port : ℕ) (content : Content) (stream bytes : List ℕ) → SomePiece port content stream bytes
+pub some_piece : (port : ℕ) (content : Store) (stream bytes : List ℕ) → SomePiece port content stream bytes
 some_piece port content stream bytes =
     let r = some_reader stream in
     let on = reads_on r.reader stream bytes r.messages r.stands in
-    let asks = every_all content.last.limits.scale on.acting in
+    let asks = every_all (limits_of content).scale on.acting in
     record { next = after_all content asks.0; replies = _; gives = piece_gives port content r.reader on.reader stream bytes r.messages on.acting asks.0 asks.1 r.stands on.stands }
 
 -- ---- Ends

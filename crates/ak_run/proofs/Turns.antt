@@ -9,17 +9,21 @@ use Rattle.ak_base.specs.declared.refusal.Refusal.TheVariants.{Cut, TooMany}
 use Rattle.ak_host.specs.Marks.{Taken, piece, ended, idle, done}
 use Rattle.ak_resp.specs.declared.message.Message.{Message}
 use Rattle.ak_resp.proofs.Rows.{one_split}
-use Rattle.ak_view.specs.Views.{View}
 use Rattle.ak_run.specs.declared.asked.Asked.{Asked}
 use Rattle.ak_run.specs.Asking.{AllAsk}
-use Rattle.ak_run.specs.Contents.{Content, views_of, after_view, after_all}
-use Rattle.ak_run.specs.Keeping.{IsIn}
+use Rattle.ak_run.specs.Contents.{after_all}
 use Rattle.ak_run.specs.Replies.{Reply, refusal_reply, replies_to, bytes_at}
 use Rattle.ak_run.specs.Run.{World, world_of, to, fault_replies, PieceGives, EndGives, EndActs, OtherTurn, PieceTurn, IsOneTooMany, AllEnd, bytes_of, Acts, Gives, RunsFrom, AreAnswers}
 use Rattle.ak_run.specs.Sessions.{Session, stream_at, with_session, without, most_sessions}
 use Rattle.ak_run.proofs.Giving.{some_piece, some_end}
-use Rattle.ak_run.proofs.Growing.{all_append, confirms_within, confirms_all_within, rises_all, view_rises, view_stays, stays_all, Orderly, orderly_view, orderly_all}
+use Rattle.ak_run.proofs.Growing.{all_append, confirms_within, confirms_all_within, stay, all_go, rises_by, stays_in}
 use Rattle.ak_run.proofs.OneAsking.{one_all}
+use Rattle.ak_run.proofs.Orders.{Orderly, flush_orderly, orderly_all}
+use Rattle.ak_world.proofs.Going.{joined, flush_goes}
+use Rattle.ak_world.specs.Steps.{flushed}
+use Rattle.ak_world.specs.Valid.{Goes}
+use Rattle.ak_world.specs.Views.{View, IsIn}
+use Rattle.ak_world.specs.Worlds.{World as Store, views_of, limits_of}
 
 -- ---- In one way
 
@@ -36,26 +40,26 @@ same_answer None None h k = refl
 same_answer (Some f) b h k = sym ((k f).1 ((h f).0 refl))
 same_answer None (Some g) h k = (h g).1 ((k g).0 refl)
 
-make_world : Content → List Session → World
+make_world : Store → List Session → World
 make_world content sessions = record { content = content; sessions = sessions }
 
 same_world : (v w : World) → v.content ≡ w.content → v.sessions ≡ w.sessions → v ≡ w
 unfolding make_world
-same_world v w content sessions = ap (λ (c : Content). make_world c v.sessions) content ∙ ap (λ (o : List Session). make_world w.content o) sessions
+same_world v w content sessions = ap (λ (c : Store). make_world c v.sessions) content ∙ ap (λ (o : List Session). make_world w.content o) sessions
 
-one_piece : (port : ℕ) (content next other : Content) (stream bytes : List ℕ) (x y : List Reply) → PieceGives port content stream bytes next x → PieceGives port content stream bytes other y → (next ≡ other) × (x ≡ y)
+one_piece : (port : ℕ) (content next other : Store) (stream bytes : List ℕ) (x y : List Reply) → PieceGives port content stream bytes next x → PieceGives port content stream bytes other y → (next ≡ other) × (x ≡ y)
 one_piece port content next other stream bytes x y g h =
     let before : g.before ≡ h.before = (one_split stream g.before h.before g.rest h.rest g.was h.was).0 in
     let all : g.before ++ g.acting ≡ h.before ++ h.acting = (one_split (stream ++ bytes) (g.before ++ g.acting) (h.before ++ h.acting) g.rest_after h.rest_after g.is h.is).0 in
     let acting : g.acting ≡ h.acting = append_cancel_left h.before g.acting h.acting (ap (λ (ms : List Message). ms ++ g.acting) (sym before) ∙ all) in
-    let asked : g.asked ≡ h.asked = one_all content.last.limits.scale h.acting g.asked h.asked (subst (λ (ms : List Message). AllAsk content.last.limits.scale ms g.asked) acting g.asks) h.asks in
+    let asked : g.asked ≡ h.asked = one_all (limits_of content).scale h.acting g.asked h.asked (subst (λ (ms : List Message). AllAsk (limits_of content).scale ms g.asked) acting g.asks) h.asks in
     let fault : g.fault ≡ h.fault = same_answer g.fault h.fault g.fault_is h.fault_is in
     let same : next ≡ other = g.next_is ∙ ap (after_all content) asked ∙ sym h.next_is in (
       same,
       g.replies_are
           ∙ ap (λ (l : List Asked). replies_to port content l ++ fault_replies port next.worn g.fault) asked
           ∙ ap (λ (o : Option Refusal). replies_to port content h.asked ++ fault_replies port next.worn o) fault
-          ∙ ap (λ (c : Content). replies_to port content h.asked ++ fault_replies port c.worn h.fault) same
+          ∙ ap (λ (c : Store). replies_to port content h.asked ++ fault_replies port c.worn h.fault) same
           ∙ sym h.replies_are,
     )
 
@@ -166,7 +170,7 @@ some_act world (ended port) = some_ended world port (stream_at world.sessions po
 some_act world idle = record { next = world; replies = []; acts = other_acts world [] }
 some_act world done =
     let e = all_end world.sessions in
-    record { next = record { content = after_view world.content; sessions = [] }; replies = e.0; acts = record { ends = e.1; content_is = refl; sessions_are = refl } }
+    record { next = record { content = flushed world.content; sessions = [] }; replies = e.0; acts = record { ends = e.1; content_is = refl; sessions_are = refl } }
 
 -- Each turn gives something.
 pub some_turn : (world : World) (turn : Taken) → TurnGives world turn
@@ -187,17 +191,15 @@ every_run view turns = some_run turns (world_of view)
 
 -- ---- What a turn leaves of what the store holds
 
--- what holds of the next content and the replies
-record Follows (content next : Content) (replies : List Reply) : Type 0 where
-  rises : content.last.number ≤ next.last.number
-  stays : (view : View) → IsIn view (views_of content) → IsIn view (views_of next)
+-- what holds of the next store and the replies
+record Follows (content next : Store) (replies : List Reply) : Type 0 where
+  goes : Goes content next
   orderly : Orderly content → Orderly next
   confirms : AllByRecursion (confirms_within next.last.number) replies
 
 other_follows : (world next : World) (replies told : List Reply) → AllByRecursion (confirms_within world.content.last.number) told → OtherTurn world next replies told → Follows world.content next.content replies
 other_follows world next replies told all o = record {
-  rises = subst (λ (w : World). world.content.last.number ≤ w.content.last.number) (sym o.same) (omega arith);
-  stays = λ view is. subst (λ (w : World). IsIn view (views_of w.content)) (sym o.same) is;
+  goes = subst (λ (w : World). Goes world.content w.content) (sym o.same) (stay world.content);
   orderly = λ is. subst (λ (w : World). Orderly w.content) (sym o.same) is;
   confirms = subst (λ (w : World). AllByRecursion (confirms_within w.content.last.number) replies) (sym o.same) (subst (AllByRecursion (confirms_within world.content.last.number)) (sym o.told_is) all);
 }
@@ -207,20 +209,22 @@ fault_confirms port number true (Some f) = tt
 fault_confirms port number false (Some f) = (omega arith, tt)
 fault_confirms port number worn None = tt
 
-pub gives_confirms : {port : ℕ} {content next : Content} {stream bytes : List ℕ} {replies : List Reply} → PieceGives port content stream bytes next replies → AllByRecursion (confirms_within next.last.number) replies
+pub gives_confirms : {port : ℕ} {content next : Store} {stream bytes : List ℕ} {replies : List Reply} → PieceGives port content stream bytes next replies → AllByRecursion (confirms_within next.last.number) replies
 gives_confirms {port} {content} {next} {stream} {bytes} {replies} g =
     subst (AllByRecursion (confirms_within next.last.number)) (sym g.replies_are)
     (all_append (confirms_within next.last.number) (replies_to port content g.asked) _
-    (subst (λ (c : Content). AllByRecursion (confirms_within c.last.number) (replies_to port content g.asked)) (sym g.next_is) (confirms_all_within port content g.asked))
+    (subst (λ (c : Store). AllByRecursion (confirms_within c.last.number) (replies_to port content g.asked)) (sym g.next_is) (confirms_all_within port content g.asked))
     (fault_confirms port next.last.number next.worn g.fault))
 
-pub gives_rises : {port : ℕ} {content next : Content} {stream bytes : List ℕ} {replies : List Reply} → PieceGives port content stream bytes next replies → content.last.number ≤ next.last.number
-gives_rises {port} {content} {next} g = subst (λ (c : Content). content.last.number ≤ c.last.number) (sym g.next_is) (rises_all content g.asked)
+pub gives_goes : {port : ℕ} {content next : Store} {stream bytes : List ℕ} {replies : List Reply} → PieceGives port content stream bytes next replies → Goes content next
+gives_goes {port} {content} {next} g = subst (Goes content) (sym g.next_is) (all_go content g.asked)
+
+pub gives_rises : {port : ℕ} {content next : Store} {stream bytes : List ℕ} {replies : List Reply} → PieceGives port content stream bytes next replies → content.last.number ≤ next.last.number
+gives_rises g = rises_by (gives_goes g)
 
 piece_follows : (world next : World) (port : ℕ) (bytes : List ℕ) (replies : List Reply) → PieceTurn world port bytes next replies → Follows world.content next.content replies
 piece_follows world next port bytes replies p = record {
-  rises = gives_rises p.gives;
-  stays = λ view is. subst (λ (c : Content). IsIn view (views_of c)) (sym p.gives.next_is) (stays_all view world.content p.gives.asked is);
+  goes = gives_goes p.gives;
   orderly = λ is. subst Orderly (sym p.gives.next_is) (orderly_all world.content p.gives.asked is);
   confirms = gives_confirms p.gives;
 }
@@ -228,8 +232,7 @@ piece_follows world next port bytes replies p = record {
 end_follows : (world next : World) (port : ℕ) (replies : List Reply) (o : Option (List ℕ)) → EndActs world port o next replies → Follows world.content next.content replies
 end_follows world next port replies None e = other_follows world next replies [] tt e
 end_follows world next port replies (Some stream) e = record {
-  rises = subst (λ (c : Content). world.content.last.number ≤ c.last.number) (sym e.content_is) (omega arith);
-  stays = λ view is. subst (λ (c : Content). IsIn view (views_of c)) (sym e.content_is) is;
+  goes = subst (Goes world.content) (sym e.content_is) (stay world.content);
   orderly = λ is. subst Orderly (sym e.content_is) is;
   confirms = subst (AllByRecursion (confirms_within next.content.last.number)) (sym e.told) (omega arith, tt);
 }
@@ -245,9 +248,8 @@ acts_follow world (piece port bytes) next replies (inr p) = piece_follows world 
 acts_follow world (ended port) next replies e = end_follows world next port replies (stream_at world.sessions port) e
 acts_follow world idle next replies o = other_follows world next replies [] tt o
 acts_follow world done next replies e = record {
-  rises = subst (λ (c : Content). world.content.last.number ≤ c.last.number) (sym e.content_is) (view_rises world.content);
-  stays = λ view is. subst (λ (c : Content). IsIn view (views_of c)) (sym e.content_is) (view_stays view world.content is);
-  orderly = λ is. subst Orderly (sym e.content_is) (orderly_view world.content is);
+  goes = subst (Goes world.content) (sym e.content_is) (flush_goes world.content);
+  orderly = λ is. subst Orderly (sym e.content_is) (flush_orderly world.content is);
   confirms = all_end_confirms next.content.last.number world.sessions replies e.ends;
 }
 
@@ -255,11 +257,14 @@ turn_follows : (world : World) (turn : Taken) (next : World) (replies : List Rep
 turn_follows world turn next replies (inl worn) = other_follows world next replies [] tt worn.1
 turn_follows world turn next replies (inr acts) = acts_follow world turn next replies acts.1
 
+pub turn_goes : (world : World) (turn : Taken) (next : World) (replies : List Reply) → Gives world turn next replies → Goes world.content next.content
+turn_goes world turn next replies g = (turn_follows world turn next replies g).goes
+
 pub turn_rises : (world : World) (turn : Taken) (next : World) (replies : List Reply) → Gives world turn next replies → world.content.last.number ≤ next.content.last.number
-turn_rises world turn next replies g = (turn_follows world turn next replies g).rises
+turn_rises world turn next replies g = rises_by (turn_goes world turn next replies g)
 
 pub turn_stays : (world : World) (turn : Taken) (next : World) (replies : List Reply) → Gives world turn next replies → (view : View) → IsIn view (views_of world.content) → IsIn view (views_of next.content)
-turn_stays world turn next replies g = (turn_follows world turn next replies g).stays
+turn_stays world turn next replies g view is = stays_in view (turn_goes world turn next replies g) is
 
 pub turn_orderly : (world : World) (turn : Taken) (next : World) (replies : List Reply) → Gives world turn next replies → Orderly world.content → Orderly next.content
 turn_orderly world turn next replies g = (turn_follows world turn next replies g).orderly
@@ -270,3 +275,8 @@ turn_confirms world turn next replies g = (turn_follows world turn next replies 
 pub run_orderly : (turns : List Taken) (world last : World) (replies : List Reply) → RunsFrom world turns last replies → Orderly world.content → Orderly last.content
 run_orderly [] world last replies run is = subst (λ (w : World). Orderly w.content) (sym run.same) is
 run_orderly (turn ∷ turns) world last replies (next, first, others, gives, run, told) is = run_orderly turns next last others run (turn_orderly world turn next first gives is)
+
+pub run_goes : (turns : List Taken) (world last : World) (replies : List Reply) → RunsFrom world turns last replies → Goes world.content last.content
+run_goes [] world last replies run = subst (λ (w : World). Goes world.content w.content) (sym run.same) (stay world.content)
+run_goes (turn ∷ turns) world last replies (next, first, others, gives, run, told) =
+    joined world.content next.content last.content (turn_goes world turn next first gives) (run_goes turns next last others run)

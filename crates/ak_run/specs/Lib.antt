@@ -1,10 +1,7 @@
 pub mod Asking
 pub mod Sessions
-pub mod Points
 pub mod Contents
 pub mod Replies
 pub mod Run
 pub mod Keeping
 pub mod Fitting
-pub mod Held
-pub mod Looks

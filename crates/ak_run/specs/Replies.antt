@@ -6,11 +6,13 @@ use Rattle.std.specs.Str.{bytes_eq}
 use Rattle.ak_base.specs.declared.point.Point.{Point}
 use Rattle.ak_base.specs.declared.refusal.Refusal.{Refusal}
 use Rattle.ak_base.specs.Refusals.{code_of, refusal_text}
-use Rattle.ak_view.specs.declared.series.Series.{Series}
 use Rattle.ak_run.specs.declared.asked.Asked.{Asked}
 use Rattle.ak_run.specs.declared.asked.Asked.TheVariants.{Refused, Points, Rows, Flush}
-use Rattle.ak_run.specs.Contents.{Content, is_last, after}
-use Rattle.ak_run.specs.Points.{refusal_of}
+use Rattle.ak_run.specs.Contents.{after}
+use Rattle.ak_world.specs.Leaves.{Series, kept_points}
+use Rattle.ak_world.specs.Puts.{refusal_of}
+use Rattle.ak_world.specs.Steps.{flushed}
+use Rattle.ak_world.specs.Worlds.{World as Store, limits_of}
 
 abbrev pub crlf : List ℕ
 crlf = 13 ∷ 10 ∷ []
@@ -64,13 +66,13 @@ row_text scale name p = name_text name ++ (44 ∷ (decimal p.ts ++ (44 ∷ (valu
 abbrev pub metric_of : List ℕ → List ℕ
 metric_of name = before_first (λ b. b == 32) name
 
--- the rows of a series of this metric, one for each point
-abbrev pub series_rows : ℕ → List ℕ → Series → List ℕ
-series_rows scale metric s = if bytes_eq (metric_of s.name) metric then flat_map (row_text scale s.name) s.points else []
+-- the rows of a series of this metric, one for each point that is kept, where this ordinal is the oldest live one
+abbrev pub series_rows : ℕ → ℕ → List ℕ → Series → List ℕ
+series_rows scale lo metric s = if bytes_eq (metric_of s.name) metric then flat_map (row_text scale s.name) (kept_points lo s) else []
 
 -- the rows of all series of this metric, by order of first acceptance
-abbrev pub rows_of : ℕ → List Series → List ℕ → List ℕ
-rows_of scale ss metric = flat_map (series_rows scale metric) ss
+abbrev pub rows_of : Store → List ℕ → List ℕ
+rows_of c metric = flat_map (series_rows (limits_of c).scale c.ordinals.lo metric) c.series
 
 -- ---- Replies
 
@@ -93,17 +95,21 @@ pub record Reply : Type 0 where
 abbrev pub plain : ℕ → List ℕ → Reply
 plain port bytes = record { port = port; bytes = bytes; confirms = 0 }
 
-abbrev pub answer_to : ℕ → Content → Asked → Reply
+-- a flush is confirmed where its view was taken
+abbrev pub flush_reply : ℕ → Store → Reply
+flush_reply port c = if c.worn then plain port [] else record { port = port; bytes = ok_reply; confirms = c.last.number }
+
+abbrev pub answer_to : ℕ → Store → Asked → Reply
 answer_to port c (Refused r) = plain port (refusal_reply r)
-answer_to port c (Points names ts vs) = plain port (points_reply (refusal_of c.last.limits c.series names ts vs))
-answer_to port c (Rows metric) = plain port (bulk_reply (rows_of c.last.limits.scale c.series metric))
-answer_to port c Flush = if is_last c then plain port [] else record { port = port; bytes = ok_reply; confirms = c.last.number + 1 }
+answer_to port c (Points names ts vs) = plain port (points_reply (refusal_of c names ts))
+answer_to port c (Rows metric) = plain port (bulk_reply (rows_of c metric))
+answer_to port c Flush = flush_reply port (flushed c)
 
 -- Once the store is worn, nothing is answered.
-abbrev pub reply_to : ℕ → Content → Asked → Reply
+abbrev pub reply_to : ℕ → Store → Asked → Reply
 reply_to port c a = if c.worn then plain port [] else answer_to port c a
 
-abbrev pub replies_to : ℕ → Content → List Asked → List Reply
+abbrev pub replies_to : ℕ → Store → List Asked → List Reply
 replies_to port c [] = []
 replies_to port c (a ∷ more) = reply_to port c a ∷ replies_to port (after c a) more
 

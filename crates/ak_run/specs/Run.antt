@@ -6,16 +6,18 @@ use Rattle.ak_host.specs.Marks.{Taken, piece, ended, idle, done}
 use Rattle.ak_resp.specs.declared.message.Message.{Message}
 use Rattle.ak_resp.specs.Grammar.{IsOpen, Splits}
 use Rattle.ak_resp.specs.Standing.{HasRefusal}
-use Rattle.ak_view.specs.Views.{View}
 use Rattle.ak_run.specs.declared.asked.Asked.{Asked}
 use Rattle.ak_run.specs.Asking.{AllAsk}
-use Rattle.ak_run.specs.Contents.{Content, opened, after_view, after_all}
+use Rattle.ak_run.specs.Contents.{after_all}
 use Rattle.ak_run.specs.Replies.{Reply, plain, refusal_reply, replies_to, bytes_at}
 use Rattle.ak_run.specs.Sessions.{Session, stream_at, with_session, without, most_sessions}
+use Rattle.ak_world.specs.Steps.{flushed}
+use Rattle.ak_world.specs.Views.{View}
+use Rattle.ak_world.specs.Worlds.{World as Store, world_of as opened, limits_of}
 
 -- what the store holds, and the open sessions by rising port
 pub record World : Type 0 where
-  pub content : Content
+  pub content : Store
   pub sessions : List Session
 
 -- as a view is opened
@@ -39,7 +41,7 @@ fault_replies port worn (Some f) = if worn then [] else to port (refusal_reply f
 
 -- Bytes come behind the stream of a port. The messages of the longer stream that weren't messages before act now, in
 -- order. Then the stream's fault is answered, where it has one that it hadn't before.
-pub record PieceGives (port : ℕ) (content : Content) (stream bytes : List ℕ) (next : Content) (replies : List Reply) : Type 0 where
+pub record PieceGives (port : ℕ) (content : Store) (stream bytes : List ℕ) (next : Store) (replies : List Reply) : Type 0 where
   pub before : List Message
   pub acting : List Message
   pub rest : List ℕ
@@ -47,7 +49,7 @@ pub record PieceGives (port : ℕ) (content : Content) (stream bytes : List ℕ)
   pub was : Splits stream before rest
   pub is : Splits (stream ++ bytes) (before ++ acting) rest_after
   pub asked : List Asked
-  pub asks : AllAsk content.last.limits.scale acting asked
+  pub asks : AllAsk (limits_of content).scale acting asked
   pub fault : Option Refusal
   pub fault_is : (f : Refusal) → (fault ≡ Some f) ↔ MeetsFault stream bytes f
   pub next_is : next ≡ after_all content asked
@@ -102,10 +104,10 @@ abbrev pub AllEnd : List Session → List Reply → Type 0
 AllEnd [] replies = replies ≡ []
 AllEnd (s ∷ ss) replies = (reply : List ℕ) × (others : List Reply) × EndGives s.stream reply × AllEnd ss others × (replies ≡ to s.port reply ++ others)
 
--- All sessions end, and then a view is taken.
+-- All sessions end, and then a flush is done.
 pub record DoneTurn (world next : World) (replies : List Reply) : Type 0 where
   pub ends : AllEnd world.sessions replies
-  pub content_is : next.content ≡ after_view world.content
+  pub content_is : next.content ≡ flushed world.content
   pub sessions_are : next.sessions ≡ []
 
 -- One turn. A session opens with the first bytes on a port that has none. Where as many as may be are open, such bytes

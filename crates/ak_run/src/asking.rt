@@ -1,6 +1,7 @@
 //! What a message asks for.
 ghost use Rattle.std.specs.Prelude.{◌≡◌, ◌≤◌, map, Some, Ok, IfOk};
 ghost use Rattle.ak_run.specs.Asking.{Asks, PutAsks, OnNames, OnTime};
+ghost use Rattle.ak_run.specs.Fitting.{IsAllowed};
 
 use crate::asked::Asked;
 use crate::queries::ask_query;
@@ -70,10 +71,12 @@ fn ask_put(
     }
 }
 
-/// What a message asks for, where values have this scale: their unit is 10^-scale.
+/// What a message asks for, where values have this scale: their unit is 10^-scale. Points have as many values as names,
+/// and each name is canonical.
 pub fn ask(alloc: Global, message: &Message, scale: u32) -> Result<Asked, AllocError>
     requires { scale ≤ 9 }
-    ensures { IfOk result (λ asked. Asks scale message.now asked) }
+    ensures asks { IfOk result (λ asked. Asks scale message.now asked) }
+    ensures allowed { IfOk result (λ asked. IsAllowed asked) }
 {
     match message {
         Message::Put { name, time, values } => ask_put(

@@ -2,14 +2,15 @@
 ghost use Rattle.std.specs.Prelude.{◌≡◌, ℕ, List};
 ghost use Rattle.std.specs.List.{AllByRecursion};
 ghost use Rattle.ak_host.specs.Marks.{Taken};
+ghost use Rattle.ak_meta.specs.Contents.{IsMeta};
 ghost use Rattle.ak_resp.specs.declared.message.Message.{Message};
-ghost use Rattle.ak_view.specs.Views.{View};
 ghost use Rattle.ak_run.specs.declared.asked.Asked.{Asked};
 ghost use Rattle.ak_run.specs.Asking.{Asks};
-ghost use Rattle.ak_run.specs.Contents.{views_of};
-ghost use Rattle.ak_run.specs.Keeping.{ArePrefixes};
 ghost use Rattle.ak_run.specs.Replies.{Reply};
 ghost use Rattle.ak_run.specs.Run.{World, world_of, RunsFrom, AreAnswers};
+ghost use Rattle.ak_world.specs.Valid.{AreOpenable, Goes, IsPrefix};
+ghost use Rattle.ak_world.specs.Views.{View};
+ghost use Rattle.ak_world.specs.Worlds.{views_of};
 
 /// A message asks for one thing at most.
 pub fn one_asking()
@@ -32,8 +33,14 @@ pub fn every_run()
     ensures { (view : View) (turns : List Taken) → (last : World) × (replies : List Reply) × RunsFrom (world_of view) turns last replies }
 {}
 
-/// For each view that a run takes or opens, the points of each series are a prefix of those accepted by then.
+/// Each view that a run takes or opens holds, for each series, the live ones of the first leaves that it had: those of the
+/// opening view, and then those closed since.
 pub fn views_hold_prefixes()
-    ensures { (view : View) (turns : List Taken) (last : World) (replies : List Reply) → RunsFrom (world_of view) turns last replies
-        → AllByRecursion (λ v. ArePrefixes v.series last.content.series) (views_of last.content) }
+    ensures { (view : View) (turns : List Taken) (last : World) (replies : List Reply) → IsMeta view.content → AreOpenable view.content.ordinals.lo view.content.series view.kept
+        → RunsFrom (world_of view) turns last replies → AllByRecursion (IsPrefix last.content.series) (views_of last.content) }
+{}
+
+/// A run keeps the views that were taken, and takes others with greater numbers alone.
+pub fn views_go_on()
+    ensures { (world last : World) (turns : List Taken) (replies : List Reply) → RunsFrom world turns last replies → Goes world.content last.content }
 {}

@@ -6,15 +6,15 @@ mod asking;
 mod laws;
 mod queries;
 mod replies;
-mod store;
+mod rows;
 mod times;
 mod values;
 
 pub use asked::{Asked, Values};
 pub use asking::ask;
-pub use laws::{every_asking, every_run, one_asking, one_run, views_hold_prefixes};
-pub use replies::write_refusal;
-pub use store::Store;
+pub use laws::{every_asking, every_run, one_asking, one_run, views_go_on, views_hold_prefixes};
+pub use replies::{write_bulk, write_refusal};
+pub use rows::{is_of, write_rows};
 
 #[cfg(test)]
 mod tests;

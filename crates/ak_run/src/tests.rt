@@ -1,10 +1,8 @@
-ghost use Rattle.std.specs.Prelude.{◌≡◌, ◌≤◌, IfOk};
-ghost use Rattle.ak_run.specs.Fitting.{IsFit};
+ghost use Rattle.std.specs.Prelude.{◌≤◌};
 
 use super::*;
 use crate::replies::write_row;
-use ak_base::{Bytes, Limits, Point, Refusal, Text, Texts};
-use ak_names::Index;
+use ak_base::{Bytes, Point, Refusal, Texts};
 use ak_resp::{Message, Part, PartKind, Parts};
 use std::alloc::{AllocError, Global};
 
@@ -131,33 +129,6 @@ fn controls(rt: HostRuntime) -> Result<(), AllocError> {
     Ok(())
 }
 
-// A store without series.
-fn empty(alloc: Global, scale: u32) -> Result<Store, AllocError>
-    requires { scale ≤ 9 }
-    ensures { IfOk result IsFit }
-{
-    let names = Index::new(alloc)?;
-    Ok(Store {
-        limits: Limits {
-            volumes: 2,
-            blocks: 16,
-            slot: 1,
-            pool: 1,
-            every: 1,
-            scale,
-        },
-        series: Vec::new(alloc),
-        names,
-        size: 48,
-    })
-}
-
-fn text(alloc: Global, bytes: &str) -> Result<Text, AllocError> {
-    let mut text = Text::new(alloc);
-    text.push(alloc, bytes)?;
-    Ok(text)
-}
-
 // The row of a value.
 fn row(alloc: Global, scale: u32, value: i64) -> Result<Bytes, AllocError>
     requires { scale ≤ 9 }
@@ -187,55 +158,33 @@ fn rows_of_values(rt: HostRuntime) -> Result<(), AllocError> {
     Ok(())
 }
 
+// The rows of these points, of a series of this name.
+fn rows(alloc: Global, name: &[u8], points: &[Point]) -> Result<Bytes, AllocError> {
+    let mut text = Bytes::new(alloc);
+    write_rows(alloc, 0, name, points, &mut text)?;
+    Ok(text)
+}
+
 #[test]
-fn points_and_rows(rt: HostRuntime) -> Result<(), AllocError> {
+fn rows_of_points(rt: HostRuntime) -> Result<(), AllocError> {
     let alloc = rt.alloc();
-    let mut store = empty(alloc, 3)?;
-    let both = [text(alloc, "cpu host=a")?, text(alloc, "mem host=a")?];
-    let one = [text(alloc, "cpu host=a")?];
-    let accepted = store.answer_points(alloc, &both, 7, &[1500, -7])?;
-    assert!(rt; accepted.as_slice().is_empty());
-    let again = store.answer_points(alloc, &one, 7, &[0])?;
-    assert!(rt; again.as_slice().is_empty());
-    let rows = store.answer_query(alloc, b"cpu")?;
+    let points = [Point { ts: 7, value: 1 }, Point { ts: 8, value: -2 }];
     assert_eq!(rt;
-        rows.as_slice(),
-        b"$32\r\ncpu host=a,7,1.5\ncpu host=a,7,0\n\r\n".as_slice()
+        rows(alloc, b"cpu host=a", &points)?.as_slice(),
+        b"cpu host=a,7,1\ncpu host=a,8,-2\n".as_slice()
     );
-    let others = store.answer_query(alloc, b"mem")?;
     assert_eq!(rt;
-        others.as_slice(),
-        b"$20\r\nmem host=a,7,-0.007\n\r\n".as_slice()
+        rows(alloc, b"a,b\"c", &points[..1])?.as_slice(),
+        b"\"a,b\"\"c\",7,1\n".as_slice()
     );
+    assert!(rt; rows(alloc, b"a", &[])?.as_slice().is_empty());
     Ok(())
 }
 
 #[test]
-fn all_or_nothing(rt: HostRuntime) -> Result<(), AllocError> {
-    let alloc = rt.alloc();
-    let mut store = empty(alloc, 0)?;
-    let one = [text(alloc, "b")?];
-    let both = [text(alloc, "a")?, text(alloc, "b")?];
-    let accepted = store.answer_points(alloc, &one, 7, &[1])?;
-    assert!(rt; accepted.as_slice().is_empty());
-    let late = store.answer_points(alloc, &both, 6, &[1, 2])?;
-    assert_eq!(rt; late.as_slice(), b"-ERR 25 late, last 7\r\n".as_slice());
-    let none = store.answer_query(alloc, b"a")?;
-    assert_eq!(rt; none.as_slice(), b"$0\r\n\r\n".as_slice());
-    Ok(())
-}
-
-#[test]
-fn quoted_name(rt: HostRuntime) -> Result<(), AllocError> {
-    let alloc = rt.alloc();
-    let mut store = empty(alloc, 0)?;
-    let names = [text(alloc, "a,b\"c")?];
-    let accepted = store.answer_points(alloc, &names, 1, &[2])?;
-    assert!(rt; accepted.as_slice().is_empty());
-    let rows = store.answer_query(alloc, b"a,b\"c")?;
-    assert_eq!(rt;
-        rows.as_slice(),
-        b"$13\r\n\"a,b\"\"c\",1,2\n\r\n".as_slice()
-    );
-    Ok(())
+fn metrics(rt: HostRuntime) {
+    assert!(rt; is_of(b"cpu host=a", b"cpu"));
+    assert!(rt; is_of(b"cpu", b"cpu"));
+    assert!(rt; !is_of(b"cpu host=a", b"cp"));
+    assert!(rt; !is_of(b"cpu host=a", b""));
 }

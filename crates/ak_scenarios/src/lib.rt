@@ -5,6 +5,8 @@
 #[cfg(test)]
 mod gates;
 #[cfg(test)]
+mod leaves;
+#[cfg(test)]
 mod sessions;
 #[cfg(test)]
 mod stops;

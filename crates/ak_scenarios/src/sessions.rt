@@ -75,7 +75,7 @@ fn give_by_bytes<R: Abort>(
     hears(rt, alloc, steps.as_slice(), told)
 }
 
-// The last view has one of the names at place 50 of its body, and the one behind it at 73.
+// The last view has one of the names at place 66 of its body, and the one behind it at 173.
 #[test]
 fn two_ports_byte_by_byte(rt: HostRuntime) -> Result<(), Fail> {
     let alloc = rt.alloc();
@@ -92,7 +92,7 @@ fn two_ports_byte_by_byte(rt: HostRuntime) -> Result<(), Fail> {
     let mut block = [0; 4096];
     let is_read = is_there(&host, 18) && host.read(0, 18, &mut block).is_ok();
     assert!(rt; is_read);
-    assert_eq!(rt; (block[50], block[73]), (b'a', b'b'));
+    assert_eq!(rt; (block[66], block[173]), (b'a', b'b'));
     Ok(())
 }
 
@@ -208,7 +208,7 @@ fn too_many_sessions(rt: HostRuntime) -> Result<(), Fail> {
     Ok(())
 }
 
-// The first 7 calls make the store, 3 give the pieces and one the end of the run. Then come the 3 answers, and 4 calls
+// The first 8 calls make the store, 3 give the pieces and one the end of the run. Then come the 3 answers, and 5 calls
 // take the last view.
 #[test]
 fn sessions_end_by_rising_port_before_the_last_view(rt: HostRuntime) -> Result<(), Fail> {
@@ -216,12 +216,12 @@ fn sessions_end_by_rising_port_before_the_last_view(rt: HostRuntime) -> Result<(
     let steps: [(u32, &[u8]); 3] = [(3, b"+"), (1, b"+"), (2, b"+")];
     let list = turns(&rt, alloc, &steps)?;
     let ends: [(u64, u8, u32); 6] = [
-        (10, 4, 0),
         (11, 4, 0),
-        (12, 4, 1),
-        (13, 4, 2),
-        (14, 3, 3),
-        (17, 3, 3),
+        (12, 4, 0),
+        (13, 4, 1),
+        (14, 4, 2),
+        (15, 3, 3),
+        (19, 3, 3),
     ];
     for (fails, status, last_told) in ends {
         let mut host = MemHost::new(alloc, list.as_slice(), &[fails])?;

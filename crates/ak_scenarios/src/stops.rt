@@ -14,16 +14,16 @@ use std::test::Fail;
 // Slot 0 is block 2 of file 0, and slot 1 is block 3. The first view is in slot 0.
 const CREATE: &str = "create d --volumes 2 --blocks 16 --slot 1 --pool 1 --scale 0";
 
-const RUN: &str = "run d";
+pub(crate) const RUN: &str = "run d";
 
 // Two points, with a view behind each: view 2 in slot 1, and view 3 in slot 0. The end of the run takes view 4.
 const POINTS: &[u8] = b"+cpu\r\n:1\r\n:1\r\n+!flush\r\n+cpu\r\n:2\r\n:2\r\n+!flush\r\n";
 
-const QUERY: &[u8] = b"+!query\r\n$16\r\n{\"select\":\"cpu\"}\r\n";
+pub(crate) const QUERY: &[u8] = b"+!query\r\n$16\r\n{\"select\":\"cpu\"}\r\n";
 
-const NO_POINT: &[u8] = b"$0\r\n\r\n";
+pub(crate) const NO_POINT: &[u8] = b"$0\r\n\r\n";
 
-const ONE_POINT: &[u8] = b"$8\r\ncpu,1,1\n\r\n";
+pub(crate) const ONE_POINT: &[u8] = b"$8\r\ncpu,1,1\n\r\n";
 
 const TWO_POINTS: &[u8] = b"$16\r\ncpu,1,1\ncpu,2,2\n\r\n";
 
@@ -44,11 +44,16 @@ fn call_in_pieces(
     perform(alloc, host, line)
 }
 
-fn call(alloc: Global, host: &mut MemHost, line: &str, stream: &[u8]) -> Result<u8, AllocError> {
+pub(crate) fn call(
+    alloc: Global,
+    host: &mut MemHost,
+    line: &str,
+    stream: &[u8],
+) -> Result<u8, AllocError> {
     call_in_pieces(alloc, host, line, stream, 4096)
 }
 
-fn perform(alloc: Global, host: &mut MemHost, line: &str) -> Result<u8, AllocError> {
+pub(crate) fn perform(alloc: Global, host: &mut MemHost, line: &str) -> Result<u8, AllocError> {
     let mut words = Vec::new(alloc);
     for word in line.split(' ') {
         words.push(String::from_str(alloc, word)?)?;
@@ -57,7 +62,7 @@ fn perform(alloc: Global, host: &mut MemHost, line: &str) -> Result<u8, AllocErr
 }
 
 // A store that was made by these words.
-fn made<R: Abort>(rt: &R, alloc: Global, line: &str) -> Result<MemHost, Fail> {
+pub(crate) fn made<R: Abort>(rt: &R, alloc: Global, line: &str) -> Result<MemHost, Fail> {
     let mut host = MemHost::new(alloc, &[], &[])?;
     let status = call(alloc, &mut host, line, b"")?;
     assert_eq!(rt; status, 0);
@@ -76,7 +81,7 @@ fn after_run<R: Abort>(rt: &R, alloc: Global, stream: &[u8]) -> Result<MemHost, 
     Ok(host)
 }
 
-fn last_moment(host: &MemHost) -> u64 {
+pub(crate) fn last_moment(host: &MemHost) -> u64 {
     host.moments() - 1
 }
 
@@ -117,7 +122,7 @@ fn within_write(alloc: Global, host: &MemHost, index: u32, before: u32) -> Resul
 }
 
 // The image at a moment is opened, and a query is answered so.
-fn shows<R: Abort>(
+pub(crate) fn shows<R: Abort>(
     rt: &R,
     alloc: Global,
     host: &MemHost,
@@ -326,47 +331,17 @@ fn a_store_is_run_again_and_again(rt: HostRuntime) -> Result<(), Fail> {
     Ok(())
 }
 
-// A view of n points of `cpu` takes 57 + 16 n bytes, and a slot has 4096.
-#[test]
-fn a_full_slot_takes_no_further_point(rt: HostRuntime) -> Result<(), Fail> {
-    let alloc = rt.alloc();
-    let mut stream = Bytes::new(alloc);
-    for time in 1..254 {
-        stream.extend(alloc, b"+cpu\r\n:")?;
-        stream.extend_decimal(alloc, time)?;
-        stream.extend(alloc, b"\r\n:0\r\n")?;
-    }
-    // a late point
-    stream.extend(alloc, b"+cpu\r\n:1\r\n:0\r\n")?;
-    stream.extend(alloc, QUERY)?;
-    let mut rows = Bytes::new(alloc);
-    rows.extend(alloc, b"$2412\r\n")?;
-    for time in 1..253 {
-        rows.extend(alloc, b"cpu,")?;
-        rows.extend_decimal(alloc, time)?;
-        rows.extend(alloc, b",0\n")?;
-    }
-    rows.extend(alloc, b"\r\n")?;
-    let mut told = Bytes::new(alloc);
-    for _ in 0..2 {
-        told.extend(alloc, b"-ERR 26 metadata full, need 4105 room 4096\r\n")?;
-    }
-    told.extend(alloc, rows.as_slice())?;
-    let host = after_run(&rt, alloc, stream.as_slice())?;
-    assert_eq!(rt; host.told(1), told.as_slice());
-    shows(&rt, alloc, &host, last_moment(&host), &[], rows.as_slice())
-}
-
-// 250 points of `a` take 55 + 16 * 250 bytes of the 4096. With a point more and the first of `bbbb` they are 16 and 26
-// more, and with the first of `b` 16 and 23.
+// 36 series take 3987 of the 4096 bytes of a slot: 64, and 106 each beside its name. With `bbbb` the record would take 110
+// more, and with `b` 107.
 #[test]
 fn a_put_is_refused_by_the_first_cause(rt: HostRuntime) -> Result<(), Fail> {
     let alloc = rt.alloc();
     let mut stream = Bytes::new(alloc);
-    for time in 1..251 {
-        stream.extend(alloc, b"+a\r\n:")?;
-        stream.extend_decimal(alloc, time)?;
-        stream.extend(alloc, b"\r\n:0\r\n")?;
+    stream.extend(alloc, b"+a\r\n:250\r\n:0\r\n+c100\r\n:1\r\n:0\r\n")?;
+    for number in 10..44 {
+        stream.extend(alloc, b"+c")?;
+        stream.extend_decimal(alloc, number)?;
+        stream.extend(alloc, b"\r\n:1\r\n:0\r\n")?;
     }
     let messages: [(&[u8], &[u8]); 11] = [
         (
@@ -413,7 +388,13 @@ fn a_put_is_refused_by_the_first_cause(rt: HostRuntime) -> Result<(), Fail> {
         stream.extend(alloc, message)?;
         told.extend(alloc, answer)?;
     }
-    let host = after_run(&rt, alloc, stream.as_slice())?;
+    let mut host = made(
+        &rt,
+        alloc,
+        "create d --volumes 2 --blocks 64 --slot 1 --pool 64",
+    )?;
+    let status = call(alloc, &mut host, RUN, stream.as_slice())?;
+    assert_eq!(rt; status, 0);
     assert_eq!(rt; host.told(1), told.as_slice());
     Ok(())
 }
@@ -459,7 +440,7 @@ fn a_damaged_newest_body_is_told(rt: HostRuntime) -> Result<(), Fail> {
         ),
     ];
     // a length that is too great, and a format that isn't known
-    let changes: [(usize, &[u8]); 2] = [(0, &[0xFF; 8]), (16, &[1])];
+    let changes: [(usize, &[u8]); 2] = [(0, &[0xFF; 8]), (16, &[2])];
     for (stream, index, told) in newest {
         for (from, bytes) in changes {
             let mut host = after_run(&rt, alloc, stream)?;

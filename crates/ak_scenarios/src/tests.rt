@@ -263,19 +263,19 @@ fn a_word_is_no_command(rt: HostRuntime) -> Result<(), Fail> {
 #[test]
 fn each_failed_call_stops_the_run(rt: HostRuntime) -> Result<(), Fail> {
     let alloc = rt.alloc();
-    // 7 calls of the disk make the store and view 1; then come the turn with the query, its answer and the turn Done, and
-    // 4 calls take view 2
-    for fails in 0..14 {
+    // 8 calls of the disk make the store and view 1; then come the turn with the query, its answer and the turn Done, and
+    // 5 calls take view 2
+    for fails in 0..16 {
         let turns = cut(alloc, b"+!query\r\n$14\r\n{\"select\":\"a\"}\r\n", 4096)?;
         let ended = call(alloc, &[], turns.as_slice(), &[fails])?;
-        let (status, line): (u8, &[u8]) = if fails < 7 || 10 <= fails {
+        let (status, line): (u8, &[u8]) = if fails < 8 || 11 <= fails {
             (3, b"akl: disk failed\n")
         } else {
             (4, b"akl: port failed\n")
         };
         assert_eq!(rt; ended.status, status, "at call {fails}");
         assert_eq!(rt; ended.console.as_slice(), line);
-        let told: &[u8] = if fails < 9 { b"" } else { b"$0\r\n\r\n" };
+        let told: &[u8] = if fails < 10 { b"" } else { b"$0\r\n\r\n" };
         assert_eq!(rt; ended.told.as_slice(), told);
     }
     Ok(())

@@ -1,18 +1,15 @@
 -- What a command leaves from what its parts leave, and what is left where nothing is done.
-use Rattle.std.proofs.Common.{ℕ, ◌≡◌, inl, inr, ◌+◌, List, [], refl, sym, ap, subst, arith}
-use Rattle.ak_base.specs.declared.stop.Stop.{Stop}
-use Rattle.ak_base.specs.declared.stop.Stop.TheVariants.{Usage, Damaged, Disk, Port, Memory, Budget, Worn, NoStore, Exists}
+use Rattle.std.proofs.Common.{ℕ, ◌≡◌, inl, ◌+◌, List, [], refl, sym, ap, subst, arith}
 use Rattle.ak_host.specs.Files.{Files}
 use Rattle.ak_host.specs.Marks.{Mark}
 use Rattle.ak_host.specs.Moments.{HostState, Passes, DiskPasses, LeavesNow, mark_now}
 use Rattle.ak_host.proofs.Passing.{passes_weaker}
-use Rattle.ak_view.specs.Views.{View}
+use Rattle.ak_world.specs.Views.{View}
 use Rattle.ak_top.specs.Commands.{IsRun, AreFree, IsMaking, LeavesBefore, scratch_limits}
-use Rattle.ak_top.specs.Ends.{IsEnd, IsScratchStop}
 use Rattle.ak_top.specs.Kept.{KeepsFrom}
 use Rattle.ak_run.specs.Run.{world_of}
 use Rattle.ak_top.specs.Told.{IsQuiet}
-use Rattle.ak_top.proofs.Opening.{free_none}
+use Rattle.ak_top.proofs.Making.{free_none}
 use Rattle.ak_top.proofs.Runs.{none_since, answered_all}
 use Rattle.ak_top.proofs.Words.{run_or_none}
 
@@ -61,16 +58,3 @@ leaves_run words host run disk left = record { run = λ again. left; scratch = �
 
 pub leaves_scratch : (words : List (List ℕ)) (host : HostState) → words ≡ [] → (disk : Files) → (AreFree host → IsMaking scratch_limits disk) → LeavesBefore words host disk
 leaves_scratch words host none disk making = record { run = λ run. absurd (run_or_none words run none); scratch = λ again. making }
-
--- ---- Why it stops
-
-pub scratch_end : (words : List (List ℕ)) (told : Type 0) (old new : HostState) → words ≡ [] → (s : Stop) → IsScratchStop told old new s → IsEnd words told old new s
-scratch_end words told old new none Usage h = absurd h
-scratch_end words told old new none (Damaged file block) h = absurd h
-scratch_end words told old new none Disk h = h
-scratch_end words told old new none Port h = h
-scratch_end words told old new none Memory h = h
-scratch_end words told old new none Budget h = inr none
-scratch_end words told old new none (Worn ordinal fill number) h = (inr none, h)
-scratch_end words told old new none NoStore h = absurd h
-scratch_end words told old new none Exists h = (scratch_limits, inr (none, refl), h)

@@ -1,32 +1,33 @@
 -- How a call ends: what stands told as it does, and what its status says.
 use Rattle.std.proofs.Common.{◌≡◌, ◌≢◌, ◌⊎◌, ◌↔◌, inl, inr, ℕ, ◌+◌, ◌≤◌, ◌<◌, Bool, false, ◌==◌, if◌then◌else◌, List, [], ◌∷◌, ◌++◌, length, Err, refl, sym, ◌∙◌, ap, subst, arith, append_assoc, codes}
 use Rattle.std.proofs.lemmas.List.{append-nil}
-use Rattle.std.proofs.lemmas.Bool.{cases_eq, cases_lt, cases_Bool}
+use Rattle.std.proofs.lemmas.Bool.{cases_eq, cases_lt}
 use Rattle.std.proofs.lemmas.Bool.Decides.{nat_tests}
 use Rattle.ak_base.specs.declared.limits.Limits.{Limits}
 use Rattle.ak_base.specs.declared.stop.Stop.{Stop}
 use Rattle.ak_base.specs.declared.stop.Stop.TheVariants.{Usage, Damaged, Disk, Port, Memory, Budget, Worn, NoStore, Exists}
 use Rattle.ak_base.specs.Stops.{status_of}
-use Rattle.ak_gate.specs.declared.half.Half.{Half}
-use Rattle.ak_gate.specs.Slots.{gate_at, is_open}
 use Rattle.ak_host.specs.Causes.{Rose}
-use Rattle.ak_host.specs.Files.{Files, file_at}
+use Rattle.ak_host.specs.Files.{Files}
 use Rattle.ak_host.specs.Marks.{Mark, Taken, done, Telling, told_to}
 use Rattle.ak_host.specs.Moments.{HostState, Passes, DiskPasses, PortPasses, HoldsFrom, mark_now}
 use Rattle.ak_host.proofs.Passing.{passes_weaker, mark_holds, holds_here, holds_on}
-use Rattle.ak_view.specs.Stops.{IsNoStore, IsTaken}
-use Rattle.ak_view.specs.Views.{View}
+use Rattle.ak_node.specs.Calls.{Begins, Told, IsSilent}
+use Rattle.ak_node.specs.Damage.{IsDamagedLeaf}
+use Rattle.ak_record.specs.Stops.{IsTaken}
+use Rattle.ak_world.specs.Views.{View}
 use Rattle.ak_words.specs.Words.{IsCommand}
 use Rattle.ak_words.specs.declared.job.Command.TheVariants.{Run, Scratch}
-use Rattle.ak_top.specs.Calls.{Told, IsSilent, HasTold}
+use Rattle.ak_top.specs.Calls.{HasTold}
 use Rattle.ak_top.specs.Commands.{IsRun, Makes, Serves, AreFree, IsMaking}
-use Rattle.ak_top.specs.Ends.{IsEnd, OnConsole, TellsLine, EndsBy, IsOneOf, IsOwn, IsMissing, IsThere, IsServingOrThere, IsExists, HasServed, IsFinished}
+use Rattle.ak_top.specs.Ends.{IsEnd, IsRunDamage, OnConsole, TellsLine, EndsBy, IsOneOf, IsOwn, IsMissing, IsThere, IsServingOrThere, IsExists, HasServed, IsFinished}
 use Rattle.ak_run.specs.Keeping.{Confirms}
 use Rattle.ak_top.specs.Kept.{IsKept, KeepsFrom}
 use Rattle.ak_run.specs.Run.{RunsFrom, world_of}
-use Rattle.ak_top.specs.Told.{Begins, Since, IsAnswered, IsComplete, NoneDone, EndsDone, AreSpent, IsWorn, IsQuiet, line_of, IsTold}
+use Rattle.ak_top.specs.Told.{Since, IsAnswered, IsComplete, NoneDone, EndsDone, AreSpent, IsWorn, HasWorn, IsQuiet, line_of, IsTold}
 use Rattle.ak_top.proofs.Commands.{quiet_starts}
-use Rattle.ak_top.proofs.Tellings.{told_to-append}
+use Rattle.ak_node.proofs.Tellings.{told_to-append}
+use Rattle.ak_top.proofs.Making.{free_none}
 use Rattle.ak_top.proofs.Runs.{none_since, same_since, fresh_run}
 
 -- ---- Before any turn
@@ -103,6 +104,10 @@ module _ (start mid mark : Mark) (line : List ℕ) (t : Told mid mark 0 line) wh
   worn_line : (view : View) → IsWorn view start mid → IsWorn view start mark
   worn_line view w = record { since = since_line w.since; last = w.last; replies = w.replies; run = w.run; worn = w.worn }
 
+  told_line : (view : View) (s : Stop) → HasWorn view start mid s → HasWorn view start mark s
+  unfolding worn_line
+  told_line view s w = record { is = worn_line view w.is; by = w.by }
+
   kept_line : (view : View) (disk : Files) → IsKept view start mid disk → IsKept view start mark disk
   kept_line view disk k = record {
     since = since_line k.since;
@@ -135,6 +140,10 @@ module _ (start mid mark : Mark) (line : List ℕ) where
   pub worn_on : (view : View) → Lined mid mark line → IsWorn view start mid → IsWorn view start mark
   worn_on view (inl same) a = subst (IsWorn view start) (sym same) a
   worn_on view (inr t) a = worn_line start mid mark line t view a
+
+  pub told_on : (view : View) (s : Stop) → Lined mid mark line → HasWorn view start mid s → HasWorn view start mark s
+  told_on view s (inl same) a = subst (λ (m : Mark). HasWorn view start m s) (sym same) a
+  told_on view s (inr t) a = told_line start mid mark line t view s a
 
   pub kept_on : (view : View) (disk : Files) → Lined mid mark line → IsKept view start mid disk → IsKept view start mark disk
   kept_on view disk (inl same) a = subst (λ (m : Mark). IsKept view start m disk) (sym same) a
@@ -189,19 +198,6 @@ pub told_failed : (s : Stop) (status : ℕ) (view : View) (old mid new : HostSta
 told_failed s status view old mid new is run tell =
     holds_on old.moment (told_from status view old mid run)
     (passes_weaker tell (λ mark m. subst (λ n. IsTold n view (mark_now old) mark) (sym is) (line_told s view (mark_now old) (mark_now mid) mark (quiet_end run) m)) (λ mark disk m left. tt))
-
--- where no store can be, there is none
-free_none : (disk : Files) → ¬ (IsTaken disk) → IsNoStore disk
-free_none disk free = elim (cases_lt (length (file_at disk 0)) 4) [
-  | inl short ↦ inr (inr (inl short))
-  | inr long ↦ inr (inr (inr (shut long)))
-]
-  where
-    shut : 4 ≤ length (file_at disk 0) → (half : Half) → is_open (gate_at half (file_at disk 0)) ≡ false
-    shut long half = elim (cases_Bool (is_open (gate_at half (file_at disk 0)))) [
-      | inl is ↦ absurd (free (record { blocks = omega (arith, long); half = half; opened = is }))
-      | inr closed ↦ closed
-    ]
 
 pub making_from : (limits : Limits) (old new : HostState) → AreFree old → DiskPasses (IsMaking limits) old new → HoldsFrom old.moment (λ mark. Unit {0}) (λ mark disk. IsMaking limits disk) new
 making_from limits old new free run =
@@ -304,16 +300,22 @@ makes_serves words limits (inl (dir, asks)) (inl (other, run)) = let is = asks.1
 
 -- ---- Why the call ends
 
-end_later : (words : List (List ℕ)) (told : Type 0) (old mid new : HostState) (s : Stop) → IsEnd words told old mid s → new.disk_faults ≡ mid.disk_faults → mid.port_faults ≤ new.port_faults → IsEnd words told old new s
-end_later words told old mid new Usage cause disk port = cause
-end_later words told old mid new (Damaged file block) cause disk port = cause
-end_later words told old mid new Disk cause disk port = subst (Rose old.disk_faults) (sym disk) cause
-end_later words told old mid new Port cause disk port = omega (arith, cause, port)
-end_later words told old mid new Memory cause disk port = tt
-end_later words told old mid new Budget cause disk port = cause
-end_later words told old mid new (Worn ordinal fill number) cause disk port = cause
-end_later words told old mid new NoStore cause disk port = cause
-end_later words told old mid new Exists cause disk port = cause
+end_later : (words : List (List ℕ)) (told : Type 0) (old mid new : HostState) (s : Stop) → IsEnd words told old mid s → new.disk_faults ≡ mid.disk_faults → mid.port_faults ≤ new.port_faults
+    → (told → new.files ≡ mid.files) → (told → Lined (mark_now mid) (mark_now new) (line_of s)) → IsEnd words told old new s
+end_later words told old mid new Usage cause disk port files line = cause
+end_later words told old mid new (Damaged file block) cause disk port files line = (cause.0, λ t. damaged t (cause.1 t))
+  where
+    damaged : told → IsRunDamage words old mid file block → IsRunDamage words old new file block
+    damaged t (inl before) = inl before
+    damaged t (inr leaf) = inr (leaf.0, subst (IsDamagedLeaf leaf.0 file block) (sym (files t)) leaf.1)
+end_later words told old mid new Disk cause disk port files line = subst (Rose old.disk_faults) (sym disk) cause
+end_later words told old mid new Port cause disk port files line = omega (arith, cause, port)
+end_later words told old mid new Memory cause disk port files line = tt
+end_later words told old mid new Budget cause disk port files line = cause
+end_later words told old mid new (Worn ordinal fill number) cause disk port files line =
+    (cause.0, λ t view opens. told_on (mark_now old) (mark_now mid) (mark_now new) _ view (Worn ordinal fill number) (line t) (cause.1 t view opens))
+end_later words told old mid new NoStore cause disk port files line = cause
+end_later words told old mid new Exists cause disk port files line = cause
 
 pub silent_console : (old new : HostState) → IsSilent old new → OnConsole (mark_now old) (mark_now new) []
 silent_console old new silent = silent ∙ sym (append-nil (told_to 0 (mark_now old).tellings))
@@ -328,10 +330,15 @@ tells_line s old mid new later quiet (inl t) = inl (
 tells_line s old mid new later quiet (inr (same, rose)) = inr (subst (λ (m : Mark). OnConsole (mark_now old) m []) (sym same) quiet, omega (arith, rose, later))
 
 pub ends_failed : (words : List (List ℕ)) (told : Type 0) (old mid new : HostState) (s : Stop) (status : ℕ) → status ≡ status_of s → IsEnd words told old mid s
-    → new.disk_faults ≡ mid.disk_faults → mid.port_faults ≤ new.port_faults → old.port_faults ≤ mid.port_faults → (told → IsSilent old mid)
+    → new.disk_faults ≡ mid.disk_faults → mid.port_faults ≤ new.port_faults → (told → new.files ≡ mid.files) → old.port_faults ≤ mid.port_faults → (told → IsSilent old mid)
     → (told → HasTold mid.port_faults new.port_faults (mark_now mid) (mark_now new) (line_of s)) → EndsBy words told old new status
-ends_failed words told old mid new s status is cause disk port later quiet line =
-    inr (s, is, end_later words told old mid new s cause disk port, λ t. tells_line s old mid new later (silent_console old mid (quiet t)) (line t))
+ends_failed words told old mid new s status is cause disk port files later quiet line =
+    inr (
+      s,
+      is,
+      end_later words told old mid new s cause disk port files (λ t. lined mid.port_faults new.port_faults (mark_now mid) (mark_now new) (line_of s) (line t)),
+      λ t. tells_line s old mid new later (silent_console old mid (quiet t)) (line t),
+    )
 
 pub missing_status : (s : Stop) (status : ℕ) → status ≡ status_of s → IsMissing s → IsOneOf 8 3 5 status
 missing_status s status is (inl e) = inl (is ∙ ap status_of e)
@@ -418,7 +425,7 @@ module _ (words : List (List ℕ)) (told : Type 0) (view : View) (old mid new : 
   )
   budget_failed (Damaged file block) status is f = (
     λ six. absurd (omega (arith, is, six)),
-    λ h. absurd (not_refused (Damaged file block) f (λ x. x) f.cause.0),
+    λ h. absurd (serving (Damaged file block) (f.sound f.cause.0)),
   )
   budget_failed Disk status is f = (λ six. absurd (omega (arith, is, six)), λ h. absurd (h.1.no_disk is))
   budget_failed Port status is f = (λ six. absurd (omega (arith, is, six)), λ h. absurd (h.1.no_port is))
@@ -449,7 +456,7 @@ module _ (words : List (List ℕ)) (told : Type 0) (view : View) (old mid new : 
   worn_failed (Worn ordinal fill number) status is f = (
     λ seven. (
       f.cause.0,
-      worn_on (mark_now old) (mark_now mid) (mark_now new) _ view f.line ((f.served f.cause.0).worn tt),
+      worn_on (mark_now old) (mark_now mid) (mark_now new) _ view f.line (f.served f.cause.0).worn.is,
       record { no_disk = λ e. omega (arith, e, is); no_port = λ e. omega (arith, e, is); no_memory = λ e. omega (arith, e, is) },
     ),
     λ h. is,
@@ -466,7 +473,7 @@ module _ (words : List (List ℕ)) (told : Type 0) (view : View) (old mid new : 
   finished_failed Port status is f t serves none disk port no_disk no_port = absurd (no_port (omega (arith, f.cause, port)))
   finished_failed Memory status is f t serves none disk port no_disk no_port = inr (inl is)
   finished_failed Budget status is f t serves none disk port no_disk no_port = inr (inr (inl (spent_on (mark_now old) (mark_now mid) (mark_now new) _ f.line ((f.served serves).spent refl))))
-  finished_failed (Worn ordinal fill number) status is f t serves none disk port no_disk no_port = inr (inr (inr (worn_on (mark_now old) (mark_now mid) (mark_now new) _ view f.line ((f.served serves).worn tt))))
+  finished_failed (Worn ordinal fill number) status is f t serves none disk port no_disk no_port = inr (inr (inr (worn_on (mark_now old) (mark_now mid) (mark_now new) _ view f.line (f.served serves).worn.is)))
   finished_failed NoStore status is f t serves none disk port no_disk no_port = absurd (serving NoStore (f.sound serves))
   finished_failed Exists status is f t serves none disk port no_disk no_port = absurd (none (makes_serves words f.cause.0 f.cause.1 serves) (f.cause.2 t))
 

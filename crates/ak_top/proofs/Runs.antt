@@ -5,26 +5,30 @@ use Rattle.std.proofs.lemmas.List.{append-nil, take_at}
 use Rattle.ak_base.proofs.Basics.{not_both}
 use Rattle.ak_host.specs.Files.{Files}
 use Rattle.ak_host.specs.Marks.{Mark, Taken, piece, ended, idle, done, Telling, told_to}
-use Rattle.ak_host.specs.Moments.{HostState}
-use Rattle.ak_view.specs.Views.{View}
-use Rattle.ak_view.specs.Views.{StandsFor as IsLeft}
-use Rattle.ak_top.specs.declared.node.Node.{Node}
-use Rattle.ak_top.specs.declared.node.Went.{Went}
-use Rattle.ak_top.specs.declared.node.Went.TheVariants.{More}
-use Rattle.ak_top.specs.declared.node.Went.TheVariants as went
-use Rattle.ak_run.specs.Contents.{views_of}
+use Rattle.ak_host.specs.Moments.{HostState, Passes}
+use Rattle.ak_host.proofs.Passing.{passes_on, passes_weaker}
+use Rattle.ak_base.specs.declared.stop.Stop.{Stop}
+use Rattle.ak_node.specs.declared.node.Node.{Node}
+use Rattle.ak_node.specs.declared.node.Went.{Went}
+use Rattle.ak_node.specs.declared.node.Went.TheVariants.{More}
+use Rattle.ak_node.specs.declared.node.Went.TheVariants as went
+use Rattle.ak_world.specs.Views.{View}
+use Rattle.ak_world.specs.Worlds.{views_of}
 use Rattle.ak_run.specs.Keeping.{Confirms}
 use Rattle.ak_top.specs.Kept.{IsKept, KeepsLast}
 use Rattle.ak_run.specs.Replies.{Reply, bytes_at}
 use Rattle.ak_run.specs.Run.{World, world_of, Gives, RunsFrom, AreAnswers}
-use Rattle.ak_top.specs.Standing.{Stands, InTurn, LeavesInTurn, AfterTurn, WearsIn, went_of}
-use Rattle.ak_top.specs.Told.{Begins, Since, IsAnswered, IsComplete, IsDone, NoneDone, EndsDone, AreSpent, IsWorn, IsQuiet}
+use Rattle.ak_node.specs.Calls.{Begins}
+use Rattle.ak_node.specs.Standing.{Stands, InTurn, LeavesInTurn, LeavesLast, WearsIn, went_of}
+use Rattle.ak_top.specs.Calls.{AfterWhole}
+use Rattle.ak_top.specs.Told.{Since, IsAnswered, IsComplete, IsDone, NoneDone, EndsDone, AreSpent, IsWorn, HasWorn, IsQuiet}
 use Rattle.ak_run.proofs.Turns.{turn_rises, turn_orderly, turn_confirms}
-use Rattle.ak_run.proofs.Growing.{bytes_at-append, all_append, confirms_within, within_more, last_in, Orderly, orderly_opened, orderly_in}
-use Rattle.ak_top.proofs.Tellings.{told_to-append}
-use Rattle.ak_run.proofs.Prefixes.{confirms_all, confirms_front}
-use Rattle.ak_top.proofs.Sound.{stands_sound}
-use Rattle.ak_top.proofs.Tellings.{begins_all}
+use Rattle.ak_run.proofs.Growing.{bytes_at-append, all_append, confirms_within, within_more, last_in}
+use Rattle.ak_run.proofs.Orders.{orderly_in}
+use Rattle.ak_node.proofs.Staying.{left_last}
+use Rattle.ak_node.proofs.Tellings.{told_to-append, begins_all}
+use Rattle.ak_run.proofs.Confirming.{confirms_all, confirms_front}
+use Rattle.ak_top.proofs.Stopping.{told_worn}
 use Rattle.ak_run.proofs.Turns.{one_run}
 
 -- ---- Runs one after another
@@ -63,7 +67,6 @@ pub record Running (view : View) (start mark : Mark) (node : Node) (host : HostS
   pub all : (port : ℕ) → told_to port since.tellings ≡ bytes_at port answer
   pub console : told_to 0 since.tellings ≡ []
   pub stands : Stands node world host
-  pub orderly : Orderly world.content
   pub confirms : AllByRecursion (confirms_within world.content.last.number) answer
   pub no_older : view.number ≤ world.content.last.number
   pub recent : before.content.last.number ≤ world.content.last.number
@@ -85,7 +88,6 @@ running_starts view mark node host stands = record {
   all = λ port. refl;
   console = refl;
   stands = stands;
-  orderly = orderly_opened view;
   confirms = tt;
   no_older = omega arith;
   recent = omega arith;
@@ -223,19 +225,19 @@ module _ (view : View) (start before : Mark) (node : Node) (host : HostState) (c
   moment_quiet mark (inr t) = turn_quiet mark t
 
   -- between turns a stop leaves the last view
-  pub running_kept : (disk : Files) → IsLeft r.world.content.last disk → IsKept view start before disk
+  pub running_kept : (disk : Files) → LeavesLast r.world.content disk → IsKept view start before disk
   running_kept disk left = record {
     since = r.since;
     all = record { last = r.world; replies = r.answer; run = r.run };
     before = record { last = r.before; replies = r.earlier; run = r.run_before };
     view = r.world.content.last;
-    sound = stands_sound r.world.content.last disk left;
-    stands = left;
+    sound = left.0;
+    stands = left.1;
     taken = last_in r.world.content;
     recent = omega (arith, r.recent);
     no_older = r.no_older;
     confirmed = λ port h. confirms_all port _ r.world.content.last.number r.answer r.confirms;
-    prefixes = orderly_in r.world.content.last r.world.content.series (views_of r.world.content) (last_in r.world.content) r.orderly;
+    prefixes = orderly_in r.world.content.last r.world.content.series (views_of r.world.content) (last_in r.world.content) r.stands.holds.keeps.valid.held;
   }
 
   -- and within a turn one of those that it finds or takes
@@ -249,7 +251,7 @@ module _ (view : View) (start before : Mark) (node : Node) (host : HostState) (c
         all = record { last = a.next; replies = r.answer ++ a.answer; run = run_next t.taking a.next a.answer a.gives };
         before = record { last = r.world; replies = r.answer; run = run_last t.taking };
         view = l.view;
-        sound = stands_sound l.view disk l.stands;
+        sound = l.sound;
         stands = l.stands;
         taken = l.taken;
         recent = omega (arith, l.recent);
@@ -259,15 +261,21 @@ module _ (view : View) (start before : Mark) (node : Node) (host : HostState) (c
             sym (length-append (bytes_at port r.answer) (told_to port a.tellings)) ∙ ap (λ (x : List ℕ). length x) (sym (told_more port a.tellings)) in
             subst (λ (n : ℕ). Confirms port n l.view.number (r.answer ++ a.answer)) same
             (confirms_front port (length (told_to port a.tellings)) l.view.number r.answer a.answer (within_more _ l.view.number r.answer l.recent r.confirms) (l.confirmed port));
-        prefixes = orderly_in l.view a.next.content.series (views_of a.next.content) l.taken (turn_orderly r.world t.taking a.next a.answer a.gives r.orderly);
+        prefixes = orderly_in l.view a.next.content.series (views_of a.next.content) l.taken (turn_orderly r.world t.taking a.next a.answer a.gives r.stands.holds.keeps.valid.held);
       }
 
-  pub moment_kept : (mark : Mark) (disk : Files) → ((mark ≡ before) × IsLeft r.world.content.last disk) ⊎ LeavesInTurn r.world before mark disk → IsKept view start mark disk
+  pub moment_kept : (mark : Mark) (disk : Files) → ((mark ≡ before) × LeavesLast r.world.content disk) ⊎ LeavesInTurn r.world before mark disk → IsKept view start mark disk
   moment_kept mark disk (inl (same, left)) = subst (λ (m : Mark). IsKept view start m disk) (sym same) (running_kept disk left)
   moment_kept mark disk (inr t) = turn_kept mark disk t
 
+  -- over it
+  pub turn_passes : (from old new : HostState) → Passes (IsQuiet view start) (IsKept view start) from old
+      → Passes (λ mark. (mark ≡ before) ⊎ InTurn r.world before mark) (λ mark disk. ((mark ≡ before) × LeavesLast r.world.content disk) ⊎ LeavesInTurn r.world before mark disk) old new
+      → Passes (IsQuiet view start) (IsKept view start) from new
+  turn_passes from old new so_far turn = passes_on so_far (passes_weaker turn moment_quiet (λ mark disk m left. moment_kept mark disk left))
+
   -- after it
-  pub running_on : (mark : Mark) (later : Node) (after : HostState) → AfterTurn r.world before mark later after More → Running view start mark later after (count + 1)
+  pub running_on : (mark : Mark) (later : Node) (after : HostState) → AfterWhole r.world before mark later after More → Running view start mark later after (count + 1)
   running_on mark later after t =
       let a = t.acted in
       record {
@@ -281,7 +289,6 @@ module _ (view : View) (start before : Mark) (node : Node) (host : HostState) (c
         all = λ port. all_more port a.tellings a.answer (a.all port);
         console = quiet_more a.tellings a.console;
         stands = a.stands;
-        orderly = turn_orderly r.world t.taking a.next a.answer a.gives r.orderly;
         confirms = all_append (confirms_within a.next.content.last.number) r.answer a.answer
             (within_more _ a.next.content.last.number r.answer (turn_rises r.world t.taking a.next a.answer a.gives) r.confirms)
             (turn_confirms r.world t.taking a.next a.answer a.gives);
@@ -292,7 +299,7 @@ module _ (view : View) (start before : Mark) (node : Node) (host : HostState) (c
       }
 
   -- after the last
-  pub ends_done : (mark : Mark) (later : Node) (after : HostState) → AfterTurn r.world before mark later after went.Done → EndsDone view start mark
+  pub ends_done : (mark : Mark) (later : Node) (after : HostState) → AfterWhole r.world before mark later after went.Done → EndsDone view start mark
   ends_done mark later after t =
       let a = t.acted in
       let since = since_more t.taking t.taken mark a.tellings t.turns_are t.tellings_are a.tells.turns_are a.tells.tellings_are in
@@ -304,34 +311,37 @@ module _ (view : View) (start before : Mark) (node : Node) (host : HostState) (c
       }
 
   -- and the last view is left then
-  pub ends_kept : (mark : Mark) (later : Node) (after : HostState) (w : Went) → AfterTurn r.world before mark later after w → KeepsLast view start mark after
+  pub ends_kept : (mark : Mark) (later : Node) (after : HostState) (w : Went) → AfterWhole r.world before mark later after w → KeepsLast view start mark after
   ends_kept mark later after w t =
       let a = t.acted in
       record {
         since = since_more t.taking t.taken mark a.tellings t.turns_are t.tellings_are a.tells.turns_are a.tells.tellings_are;
         all = record { last = a.next; replies = r.answer ++ a.answer; run = run_next t.taking a.next a.answer a.gives };
-        left = a.stands.holds.left;
-        sound = λ disk left. stands_sound a.next.content.last disk (a.stands.holds.left disk left);
+        left = λ disk left. (left_last a.next.content later.keeper after a.stands.holds disk left).1;
+        sound = λ disk left. (left_last a.next.content later.keeper after a.stands.holds disk left).0;
       }
 
-  pub ends_fresh : (mark : Mark) (later : Node) (after : HostState) (w : Went) → AfterTurn r.world before mark later after w → ¬ (IsWorn view start mark)
+  pub ends_fresh : (mark : Mark) (later : Node) (after : HostState) (w : Went) → AfterWhole r.world before mark later after w → ¬ (IsWorn view start mark)
   ends_fresh mark later after w t worn =
       let a = t.acted in
       let since = since_more t.taking t.taken mark a.tellings t.turns_are t.tellings_are a.tells.turns_are a.tells.tellings_are in
-      fresh_run view start mark since worn a.next (r.answer ++ a.answer) (run_next t.taking a.next a.answer a.gives) a.stands.holds.not_worn
+      fresh_run view start mark since worn a.next (r.answer ++ a.answer) (run_next t.taking a.next a.answer a.gives) a.stands.holds.keeps.not_worn
 
-  pub wears_run : (mark : Mark) → WearsIn r.world before mark → IsWorn view start mark
-  wears_run mark w = record {
-    since = record {
-      turns = r.since.turns ++ w.taking ∷ [];
-      tellings = r.since.tellings ++ w.tellings;
-      turns_are = turns_more start before mark r.since w.taking w.turns_are;
-      tellings_are = w.tellings_are ∙ ap (λ (l : List Telling). l ++ w.tellings) r.since.tellings_are ∙ append_assoc start.tellings r.since.tellings w.tellings;
+  pub wears_run : (mark : Mark) (s : Stop) → WearsIn r.world before mark s → HasWorn view start mark s
+  wears_run mark s w = record {
+    is = record {
+      since = record {
+        turns = r.since.turns ++ w.taking ∷ [];
+        tellings = r.since.tellings ++ w.tellings;
+        turns_are = turns_more start before mark r.since w.taking w.turns_are;
+        tellings_are = w.tellings_are ∙ ap (λ (l : List Telling). l ++ w.tellings) r.since.tellings_are ∙ append_assoc start.tellings r.since.tellings w.tellings;
+      };
+      last = w.wears.next;
+      replies = r.answer ++ w.wears.answer;
+      run = run_next w.taking w.wears.next w.wears.answer w.wears.gives;
+      worn = told_worn w.wears.next.content s w.wears.worn;
     };
-    last = w.wears.next;
-    replies = r.answer ++ w.wears.answer;
-    run = run_next w.taking w.wears.next w.wears.answer w.wears.gives;
-    worn = w.wears.worn;
+    by = w.wears.worn;
   }
 
 -- once all turns are spent
@@ -343,4 +353,4 @@ module _ (view : View) (start mark : Mark) (node : Node) (host : HostState) (cou
   spent_all all = record { since = r.since; count = r.count_is ∙ all; none_done = r.none_done }
 
   pub spent_fresh : ¬ (IsWorn view start mark)
-  spent_fresh worn = fresh_run view start mark r.since worn r.world r.answer r.run r.stands.holds.not_worn
+  spent_fresh worn = fresh_run view start mark r.since worn r.world r.answer r.run r.stands.holds.keeps.not_worn

@@ -3,8 +3,10 @@ use Rattle.std.specs.Prelude.{ℕ, ◌≡◌, ◌⊎◌, List, []}
 use Rattle.ak_base.specs.declared.limits.Limits.{Limits}
 use Rattle.ak_host.specs.Files.{Files}
 use Rattle.ak_host.specs.Moments.{HostState, LeavesNow}
-use Rattle.ak_view.specs.Stops.{IsNoStore, IsTaken}
-use Rattle.ak_view.specs.Views.{View, StandsFor, first_view}
+use Rattle.ak_image.specs.Images.{IsSound, StandsFor}
+use Rattle.ak_node.specs.Opening.{IsFirst}
+use Rattle.ak_record.specs.Stops.{IsNoStore, IsTaken}
+use Rattle.ak_world.specs.Views.{View, first_view}
 use Rattle.ak_words.specs.Words.{Asks}
 use Rattle.ak_words.specs.declared.job.Command.TheVariants.{Create, Run}
 
@@ -28,9 +30,10 @@ Makes words limits = Creates words limits ⊎ ((words ≡ []) × (limits ≡ scr
 abbrev pub Serves : List (List ℕ) → Type 0
 Serves words = IsRun words ⊎ (words ≡ [])
 
--- The opening view: for `run` that for which the disk stands as it reads, with no words the first view of the store that
--- is made.
+-- The opening view: for `run` that for which the disk, which is sound, stands as it reads; with no words the first view of the
+-- store that is made.
 pub record Opens (words : List (List ℕ)) (host : HostState) (view : View) : Type 0 where
+  pub sound : IsRun words → IsSound host.files
   pub run : IsRun words → StandsFor view host.files
   pub scratch : words ≡ [] → view ≡ first_view scratch_limits
 
@@ -38,9 +41,9 @@ pub record Opens (words : List (List ℕ)) (host : HostState) (view : View) : Ty
 abbrev pub AreFree : HostState → Type 0
 AreFree host = (disk : Files) → LeavesNow host disk → ¬ (IsTaken disk)
 
--- while a store is made a stop leaves no store, or the first view
+-- while a store is made a stop leaves no store, or a sound disk that stands for the first view
 abbrev pub IsMaking : Limits → Files → Type 0
-IsMaking limits disk = IsNoStore disk ⊎ StandsFor (first_view limits) disk
+IsMaking limits disk = IsNoStore disk ⊎ IsFirst limits disk
 
 -- what a stop leaves until the store is open: for `run` what it might have left before, with no words what it leaves
 -- while the store is made

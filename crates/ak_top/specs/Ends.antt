@@ -1,5 +1,5 @@
 -- How a call ends, and why.
-use Rattle.std.specs.Prelude.{ℕ, ◌≡◌, ◌≢◌, ◌⊎◌, ◌-◌, ◌^◌, ◌≤◌, List, [], ◌++◌, Result, Ok, Err, OnOk}
+use Rattle.std.specs.Prelude.{ℕ, ◌≡◌, ◌≢◌, ◌⊎◌, List, [], ◌++◌, Result, Ok, Err, OnOk}
 use Rattle.ak_base.specs.declared.limits.Limits.{Limits}
 use Rattle.ak_base.specs.declared.stop.Stop.{Stop}
 use Rattle.ak_base.specs.declared.stop.Stop.TheVariants.{Usage, Damaged, Disk, Port, Memory, Budget, Worn, NoStore, Exists}
@@ -7,23 +7,33 @@ use Rattle.ak_base.specs.Stops.{status_of}
 use Rattle.ak_host.specs.Causes.{Rose}
 use Rattle.ak_host.specs.Marks.{Mark}
 use Rattle.ak_host.specs.Moments.{HostState, mark_now}
-use Rattle.ak_view.specs.Stops.{IsNoStore, IsTaken, IsDamagedAt}
+use Rattle.ak_image.specs.Images.{IsSound, StandsFor}
+use Rattle.ak_meta.specs.Contents.{Content}
+use Rattle.ak_node.specs.Calls.{console_of}
+use Rattle.ak_node.specs.Damage.{IsDamagedLeaf}
+use Rattle.ak_record.specs.Stops.{IsNoStore, IsTaken, IsDamaged}
+use Rattle.ak_tree.specs.Stops.{OnWorn}
 use Rattle.ak_words.specs.Words.{IsCommand}
-use Rattle.ak_top.specs.Commands.{IsRun, Makes, Serves}
-use Rattle.ak_top.specs.Calls.{console_of, OnStop, IsBudget, IsWornStop}
+use Rattle.ak_top.specs.Commands.{IsRun, Makes, Serves, Opens, scratch_limits}
+use Rattle.ak_top.specs.Calls.{OnStop, IsBudget}
 use Rattle.ak_top.specs.Kept.{KeepsLast}
-use Rattle.ak_top.specs.Told.{IsComplete, EndsDone, AreSpent, IsWorn, line_of}
-use Rattle.ak_view.specs.Views.{View}
+use Rattle.ak_top.specs.Told.{IsComplete, EndsDone, AreSpent, IsWorn, HasWorn, line_of}
+use Rattle.ak_world.specs.Views.{View, first_view}
+
+-- What was damaged: for `run` what an opening reads, or a leaf that a record names and that was read in a turn.
+abbrev pub IsRunDamage : List (List ℕ) → HostState → HostState → ℕ → ℕ → Type 0
+IsRunDamage words old new file block = (IsRun words × IsDamaged file block old.files) ⊎ ((c : Content) × IsDamagedLeaf c file block new.files)
 
 -- Why a call with these words ends by a stop.
 abbrev pub IsEnd : List (List ℕ) → Type 0 → HostState → HostState → Stop → Type 0
 IsEnd words told old new Usage = ¬ (IsCommand words)
-IsEnd words told old new (Damaged file block) = IsRun words × (file ≡ 0) × (told → IsDamagedAt block old.files)
+IsEnd words told old new (Damaged file block) = Serves words × (told → IsRunDamage words old new file block)
 IsEnd words told old new Disk = Rose old.disk_faults new.disk_faults
 IsEnd words told old new Port = Rose old.port_faults new.port_faults
 IsEnd words told old new Memory = Unit {0}
 IsEnd words told old new Budget = Serves words
-IsEnd words told old new (Worn ordinal fill number) = Serves words × (2 ^ 64 - 1 ≤ number)
+IsEnd words told old new (Worn ordinal fill number) = Serves words
+    × (told → (view : View) → Opens words old view → HasWorn view (mark_now old) (mark_now new) (Worn ordinal fill number))
 IsEnd words told old new NoStore = IsRun words × (told → IsNoStore old.files)
 IsEnd words told old new Exists = (limits : Limits) × Makes words limits × (told → IsTaken old.files)
 
@@ -58,12 +68,13 @@ IsExists s = s ≡ Exists
 -- Why a run stops: as it is opened, or as it is served.
 abbrev pub IsRunStop : Type 0 → HostState → HostState → Stop → Type 0
 IsRunStop told old new NoStore = told → IsNoStore old.files
-IsRunStop told old new (Damaged file block) = (file ≡ 0) × (told → IsDamagedAt block old.files)
+IsRunStop told old new (Damaged file block) = told → IsDamaged file block old.files ⊎ ((c : Content) × IsDamagedLeaf c file block new.files)
 IsRunStop told old new Disk = Rose old.disk_faults new.disk_faults
 IsRunStop told old new Port = Rose old.port_faults new.port_faults
 IsRunStop told old new Memory = Unit {0}
 IsRunStop told old new Budget = Unit {0}
-IsRunStop told old new (Worn ordinal fill number) = 2 ^ 64 - 1 ≤ number
+IsRunStop told old new (Worn ordinal fill number) = told → (view : View) → IsSound old.files → StandsFor view old.files
+    → HasWorn view (mark_now old) (mark_now new) (Worn ordinal fill number)
 IsRunStop told old new Usage = ⊥
 IsRunStop told old new Exists = ⊥
 
@@ -74,9 +85,9 @@ IsScratchStop told old new Disk = Rose old.disk_faults new.disk_faults
 IsScratchStop told old new Port = Rose old.port_faults new.port_faults
 IsScratchStop told old new Memory = Unit {0}
 IsScratchStop told old new Budget = Unit {0}
-IsScratchStop told old new (Worn ordinal fill number) = 2 ^ 64 - 1 ≤ number
+IsScratchStop told old new (Worn ordinal fill number) = told → HasWorn (first_view scratch_limits) (mark_now old) (mark_now new) (Worn ordinal fill number)
 IsScratchStop told old new Usage = ⊥
-IsScratchStop told old new (Damaged file block) = ⊥
+IsScratchStop told old new (Damaged file block) = told → (c : Content) × IsDamagedLeaf c file block new.files
 IsScratchStop told old new NoStore = ⊥
 
 -- what ends a call that finds no store, or one already, before it serves any turn
@@ -109,7 +120,7 @@ pub record HasServed (view : View) (start : Mark) (new : HostState) (result : Re
   pub spent : OnStop IsBudget result (AreSpent start (mark_now new))
   pub complete : OnStop IsBudget result (IsComplete view start (mark_now new))
   pub fresh_spent : OnStop IsBudget result (¬ (IsWorn view start (mark_now new)))
-  pub worn : OnStop IsWornStop result (IsWorn view start (mark_now new))
+  pub worn : OnWorn result (HasWorn view start (mark_now new))
 
 -- Where no call of the outside failed, the turn `Done` ends the call with status 0, unless memory ran out, `Done` isn't
 -- among the first 2 ^ 32 turns, or the store is worn.

@@ -3,12 +3,14 @@ use Rattle.std.specs.Prelude.{ℕ, ◌≡◌, ◌+◌, ◌-◌, ◌<◌, ◌≤�
 use Rattle.ak_host.specs.Files.{Files}
 use Rattle.ak_host.specs.Marks.{Mark, Taken, told_to}
 use Rattle.ak_host.specs.Moments.{HostState, LeavesNow}
-use Rattle.ak_view.specs.Views.{View, IsSound, StandsFor}
-use Rattle.ak_run.specs.Contents.{views_of}
-use Rattle.ak_run.specs.Keeping.{IsIn, ArePrefixes, Confirms}
+use Rattle.ak_image.specs.Images.{IsSound, StandsFor}
+use Rattle.ak_run.specs.Keeping.{Confirms}
 use Rattle.ak_run.specs.Replies.{Reply}
 use Rattle.ak_run.specs.Run.{World, world_of, RunsFrom}
 use Rattle.ak_top.specs.Told.{Since}
+use Rattle.ak_world.specs.Valid.{IsPrefix}
+use Rattle.ak_world.specs.Views.{View, IsIn}
+use Rattle.ak_world.specs.Worlds.{views_of}
 
 -- The run of these turns leads to this world, and is told these replies.
 pub record Leads (view : View) (turns : List Taken) : Type 0 where
@@ -31,8 +33,8 @@ pub record IsKept (opening : View) (start mark : Mark) (disk : Files) : Type 0 w
   pub no_older : opening.number ≤ view.number
   -- It is no older than any view whose flush was confirmed, from the first byte told.
   pub confirmed : (port : ℕ) → 1 ≤ port → Confirms port (length (told_to port since.tellings)) view.number all.replies
-  -- It holds for each series a prefix of the points accepted.
-  pub prefixes : ArePrefixes view.series all.last.content.series
+  -- It holds for each series the live ones of the first leaves, whose points are a prefix of those accepted.
+  pub prefixes : IsPrefix all.last.content.series view
 
 -- At each moment from the barrier on, a stop leaves such a disk. Before it, no turn is taken, and a stop leaves a disk
 -- that has P.

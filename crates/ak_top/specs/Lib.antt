@@ -1,7 +1,5 @@
+pub mod Commands
 pub mod Told
 pub mod Kept
-pub mod Calls
-pub mod Standing
-pub mod Pieces
-pub mod Commands
 pub mod Ends
+pub mod Calls

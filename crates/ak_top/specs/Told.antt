@@ -4,14 +4,11 @@ use Rattle.std.specs.List.{AllByRecursion}
 use Rattle.ak_base.specs.declared.stop.Stop.{Stop}
 use Rattle.ak_base.specs.Stops.{stop_text, status_of}
 use Rattle.ak_host.specs.Marks.{Mark, Taken, piece, ended, idle, done, Telling, told_to}
-use Rattle.ak_view.specs.Views.{View}
+use Rattle.ak_node.specs.Calls.{Begins}
 use Rattle.ak_run.specs.Replies.{Reply}
 use Rattle.ak_run.specs.Run.{World, world_of, RunsFrom, AreAnswers}
-
--- the list begins with these
-pub record Begins (front list : List ℕ) : Type 0 where
-  pub rest : List ℕ
-  pub is : list ≡ front ++ rest
+use Rattle.ak_tree.specs.Stops.{IsWornBy}
+use Rattle.ak_world.specs.Views.{View}
 
 -- the turns and tellings since a mark
 pub record Since (start mark : Mark) : Type 0 where
@@ -60,13 +57,18 @@ pub record AreSpent (start mark : Mark) : Type 0 where
   pub count : length since.turns ≡ 2 ^ 32
   pub none_done : NoneDone since.turns
 
--- The turns since have worn the store: a view was due, and the last has the greatest number of 64 bits.
+-- The turns since have worn the store.
 pub record IsWorn (view : View) (start mark : Mark) : Type 0 where
   pub since : Since start mark
   pub last : World
   pub replies : List Reply
   pub run : RunsFrom (world_of view) since.turns last replies
   pub worn : last.content.worn ≡ true
+
+-- the same, and the stop tells so
+pub record HasWorn (view : View) (start mark : Mark) (stop : Stop) : Type 0 where
+  pub is : IsWorn view start mark
+  pub by : IsWornBy is.last.content stop
 
 -- the console was told nothing so far
 pub record IsQuiet (view : View) (start mark : Mark) : Type 0 where

@@ -1,43 +1,70 @@
 //! The top call.
-ghost use Rattle.std.specs.Prelude.{◌≡◌, ◌≢◌, ◌⊎◌, ◌↔◌, ◌≤◌, [], map, string_bytes, OnOk, IfOk, IfErr};
+ghost use Rattle.std.specs.Prelude.{◌≡◌, ◌≢◌, ◌⊎◌, ◌↔◌, ◌≤◌, [], map, string_bytes, None, OnOk, IfOk, IfErr};
 ghost use Rattle.ak_base.specs.declared.limits.Limits.{Limits};
 ghost use Rattle.ak_base.specs.Ranges.{AreLimits};
 ghost use Rattle.ak_base.specs.Stops.{status_of};
 ghost use Rattle.ak_host.specs.Causes.{Rose};
 ghost use Rattle.ak_host.specs.Files.{Files};
 ghost use Rattle.ak_host.specs.Moments.{Passes, PortPasses, DiskPasses, HoldsFrom, LeavesNow, mark_now};
-ghost use Rattle.ak_view.specs.Stops.{IsNoStore, IsTaken, IsMakeStop, IsOpenStop};
-ghost use Rattle.ak_view.specs.Views.{View, StandsFor, first_view};
+ghost use Rattle.ak_image.specs.Images.{IsSound, StandsFor};
+ghost use Rattle.ak_node.specs.Calls.{HasStops, IsSilent, IsSoundStop, Told};
+ghost use Rattle.ak_node.specs.Opening.{IsFirst};
+ghost use Rattle.ak_record.specs.Stops.{IsNoStore, IsTaken, IsMakeStop};
+ghost use Rattle.ak_tree.specs.Stops.{OnWorn};
+ghost use Rattle.ak_world.specs.Views.{View, first_view};
 ghost use Rattle.ak_words.specs.Words.{IsCommand};
-ghost use Rattle.ak_top.specs.Calls.{Told, IsSilent, HasServeStops, HasTold, OnStop, IsBudget, IsWornStop};
+ghost use Rattle.ak_top.specs.Calls.{HasServeStops, HasTold, OnStop, IsBudget, AfterWhole};
 ghost use Rattle.ak_top.specs.Commands.{IsRun, Creates, Makes, Serves, Opens, AreFree, IsMaking, LeavesBefore, scratch_limits};
 ghost use Rattle.ak_top.specs.Ends.{EndsBy, IsEnd, IsOneOf, IsOwn, IsRunStop, IsScratchStop, OnlyBy, IsMissing, IsThere, IsRefused, IsServing, IsServingOrThere, IsExists, HasServed, IsFinished};
 ghost use Rattle.ak_top.specs.Kept.{IsKept, KeepsFrom, KeepsLast};
-ghost use Rattle.ak_run.specs.Run.{world_of};
-ghost use Rattle.ak_top.specs.Standing.{CanServe, Stands};
-ghost use Rattle.ak_top.specs.Told.{IsComplete, EndsDone, AreSpent, IsWorn, IsTold, line_of, IsQuiet};
+ghost use Rattle.ak_run.specs.Run.{World, world_of};
+ghost use Rattle.ak_node.specs.Standing.{CanServe, Stands, InTurn, LeavesInTurn, LeavesLast, WearsIn};
+ghost use Rattle.ak_top.specs.Told.{IsComplete, EndsDone, AreSpent, IsWorn, HasWorn, IsTold, line_of, IsQuiet};
 
-use crate::keeper::Keeper;
-use crate::node::{Node, Went};
 use ak_base::{Limits, Stop};
-use ak_gate::Gate;
+use ak_checkpoint::make_store;
 use ak_host::{Disk, Host, Ports};
-use ak_names::Index;
-use ak_run::Store;
-use ak_view::{make_store, open_newest, sync_all};
+use ak_node::{Node, Went};
 use ak_words::{Command, WordsError, read_words};
-use std::alloc::{AllocError, Global};
+use std::alloc::Global;
 
 // How many turns a call takes at most.
 const TURNS: u64 = 1 << 32;
 
-// The bytes of a slot that a store without series takes.
-const EMPTY_SIZE: u64 = 48;
+/// Takes a turn, and does what `Done` asks for.
+fn take_turn<H: Host>(alloc: Global, host: &mut H, node: &mut Node) -> Result<Went, Stop>
+    requires free { node.old.stop ≡ None }
+    requires ready { CanServe H.tells node.old (H.state host.old) }
+    ensures free { OnOk result (node.new.stop ≡ None) }
+    ensures stops { HasStops H.tells node.new.keeper.forest.meta (H.state host.old) (H.state host.new) result }
+    ensures silent { H.tells → IsSilent (H.state host.old) (H.state host.new) }
+    ensures sound { H.tells → (world : World) → Stands node.old world (H.state host.old) → IfErr result IsSoundStop }
+    ensures ready { OnOk result (CanServe H.tells node.new (H.state host.new)) }
+    ensures worn { H.tells → (world : World) → Stands node.old world (H.state host.old)
+        → OnWorn result (WearsIn world (mark_now (H.state host.old)) (mark_now (H.state host.new))) }
+    ensures after { H.tells → (world : World) → Stands node.old world (H.state host.old)
+        → IfOk result (λ went. AfterWhole world (mark_now (H.state host.old)) (mark_now (H.state host.new)) node.new (H.state host.new) went) }
+    ensures moments { H.tells → (world : World) → Stands node.old world (H.state host.old)
+        → Passes (λ mark. (mark ≡ mark_now (H.state host.old)) ⊎ InTurn world (mark_now (H.state host.old)) mark)
+        (λ mark disk. ((mark ≡ mark_now (H.state host.old)) × LeavesLast world.content disk)
+        ⊎ LeavesInTurn world (mark_now (H.state host.old)) mark disk)
+        (H.state host.old) (H.state host.new) }
+{
+    match node.turn(alloc, host)? {
+        Went::More => Ok(Went::More),
+        Went::Done => {
+            node.finish(alloc, host)?;
+            Ok(Went::Done)
+        }
+    }
+}
 
 /// Takes turns up to the last, and answers each.
 fn serve<H: Host>(alloc: Global, host: &mut H, node: Node) -> Result<(), Stop>
+    requires free { node.stop ≡ None }
     requires ready { CanServe H.tells node (H.state host.old) }
-    ensures cause { HasServeStops (H.state host.old) (H.state host.new) result }
+    ensures cause { HasServeStops H.tells (H.state host.old) (H.state host.new) result }
+    ensures sound { H.tells → (view : View) → Stands node (world_of view) (H.state host.old) → IfErr result IsSoundStop }
     ensures silent { H.tells → IsSilent (H.state host.old) (H.state host.new) }
     ensures spent { H.tells → (view : View) → Stands node (world_of view) (H.state host.old)
         → OnStop IsBudget result (AreSpent (mark_now (H.state host.old)) (mark_now (H.state host.new))) }
@@ -48,7 +75,7 @@ fn serve<H: Host>(alloc: Global, host: &mut H, node: Node) -> Result<(), Stop>
     ensures complete { H.tells → (view : View) → Stands node (world_of view) (H.state host.old)
         → OnStop IsBudget result (IsComplete view (mark_now (H.state host.old)) (mark_now (H.state host.new))) }
     ensures worn { H.tells → (view : View) → Stands node (world_of view) (H.state host.old)
-        → OnStop IsWornStop result (IsWorn view (mark_now (H.state host.old)) (mark_now (H.state host.new))) }
+        → OnWorn result (HasWorn view (mark_now (H.state host.old)) (mark_now (H.state host.new))) }
     ensures fresh { H.tells → (view : View) → Stands node (world_of view) (H.state host.old)
         → OnOk result (¬ (IsWorn view (mark_now (H.state host.old)) (mark_now (H.state host.new)))) }
     ensures fresh_spent { H.tells → (view : View) → Stands node (world_of view) (H.state host.old)
@@ -58,65 +85,13 @@ fn serve<H: Host>(alloc: Global, host: &mut H, node: Node) -> Result<(), Stop>
 {
     let mut node = node;
     for _turn in 0..TURNS {
-        match node.turn(alloc, host) {
+        match take_turn(alloc, host, &mut node) {
             Ok(Went::More) => {}
             Ok(Went::Done) => return Ok(()),
             Err(stop) => return Err(stop),
         }
     }
     Err(Stop::Budget)
-}
-
-/// The node of the newest view that the disk has. Each file is synced first.
-fn open_store<D: Disk>(alloc: Global, disk: &mut D) -> Result<Node, Stop>
-    ensures err { IfErr result (IsOpenStop D.tells (D.state disk.old) (D.state disk.new)) }
-    ensures no_store { D.tells → IsNoStore (D.state disk.old).files → IfOk result (λ node. ⊥) }
-    ensures ready { IfOk result (λ node. CanServe D.tells node (D.state disk.new)) }
-    ensures stands { D.tells → (view : View) → StandsFor view (D.state disk.old).files → IfOk result (λ node. Stands node (world_of view) (D.state disk.new)) }
-    ensures moments { D.tells → DiskPasses (LeavesNow (D.state disk.old)) (D.state disk.old) (D.state disk.new) }
-    ensures disk_later { (D.state disk.old).disk_faults ≤ (D.state disk.new).disk_faults }
-    ensures port_faults { (D.state disk.new).port_faults ≡ (D.state disk.old).port_faults }
-{
-    if disk.files() == 0 {
-        return Err(Stop::NoStore);
-    }
-    sync_all(disk)?;
-    let opened = open_newest(alloc, disk)?;
-    Ok(Node {
-        keeper: Keeper {
-            gate: opened.gate,
-            store: Store {
-                limits: opened.limits,
-                series: opened.series,
-                names: opened.names,
-                size: opened.size,
-            },
-        },
-        sessions: Vec::new(alloc),
-    })
-}
-
-/// The node of a store that was just made.
-fn first_node(alloc: Global, gate: Gate, limits: Limits) -> Result<Node, AllocError>
-    ensures limits { IfOk result (λ node. node.keeper.store.limits ≡ limits) }
-    ensures series { IfOk result (λ node. node.keeper.store.series.items ≡ []) }
-    ensures names { IfOk result (λ node. node.keeper.store.names ≡ []) }
-    ensures size { IfOk result (λ node. node.keeper.store.size ≡ 48) }
-    ensures gate { IfOk result (λ node. node.keeper.gate ≡ gate) }
-    ensures sessions { IfOk result (λ node. node.sessions.items ≡ []) }
-{
-    Ok(Node {
-        keeper: Keeper {
-            gate,
-            store: Store {
-                limits,
-                series: Vec::new(alloc),
-                names: Index::new(alloc)?,
-                size: EMPTY_SIZE,
-            },
-        },
-        sessions: Vec::new(alloc),
-    })
 }
 
 /// Opens the store, and serves it.
@@ -126,14 +101,14 @@ fn run<H: Host>(alloc: Global, host: &mut H) -> Result<(), Stop>
     ensures port_later { (H.state host.old).port_faults ≤ (H.state host.new).port_faults }
     ensures no_store { H.tells → IsNoStore (H.state host.old).files → OnlyBy IsMissing result }
     ensures silent { H.tells → IsSilent (H.state host.old) (H.state host.new) }
-    ensures quiet { H.tells → (view : View) → StandsFor view (H.state host.old).files
+    ensures quiet { H.tells → (view : View) → IsSound (H.state host.old).files → StandsFor view (H.state host.old).files
         → Passes (IsQuiet view (mark_now (H.state host.old))) (λ mark disk. Unit {0}) (H.state host.old) (H.state host.new) }
-    ensures served { H.tells → (view : View) → StandsFor view (H.state host.old).files → HasServed view (mark_now (H.state host.old)) (H.state host.new) result }
-    ensures sound { H.tells → (view : View) → StandsFor view (H.state host.old).files → IfErr result IsServing }
-    ensures stands { H.tells → (view : View) → StandsFor view (H.state host.old).files
+    ensures served { H.tells → (view : View) → IsSound (H.state host.old).files → StandsFor view (H.state host.old).files → HasServed view (mark_now (H.state host.old)) (H.state host.new) result }
+    ensures sound { H.tells → (view : View) → IsSound (H.state host.old).files → StandsFor view (H.state host.old).files → IfErr result IsServing }
+    ensures stands { H.tells → (view : View) → IsSound (H.state host.old).files → StandsFor view (H.state host.old).files
         → KeepsFrom view (LeavesNow (H.state host.old)) (H.state host.old) (H.state host.new) }
 {
-    let node = open_store(alloc, host)?;
+    let node = Node::open(alloc, host)?;
     serve(alloc, host, node)
 }
 
@@ -147,16 +122,12 @@ fn scratch<H: Host>(alloc: Global, host: &mut H) -> Result<(), Stop>
     ensures quiet { H.tells → Passes (IsQuiet (first_view scratch_limits) (mark_now (H.state host.old))) (λ mark disk. Unit {0}) (H.state host.old) (H.state host.new) }
     ensures there { H.tells → OnStop IsExists result (mark_now (H.state host.new) ≡ mark_now (H.state host.old)) }
     ensures served { H.tells → HasServed (first_view scratch_limits) (mark_now (H.state host.old)) (H.state host.new) result }
-    ensures sound { IfErr result IsServingOrThere }
+    ensures sound { H.tells → IfErr result IsServingOrThere }
     ensures stands { H.tells → KeepsFrom (first_view scratch_limits) (λ disk. AreFree (H.state host.old) → IsMaking scratch_limits disk)
         (H.state host.old) (H.state host.new) }
 {
-    let limits = Limits::SCRATCH;
-    let gate = make_store(alloc, host, &limits)?;
-    match first_node(alloc, gate, limits) {
-        Ok(node) => serve(alloc, host, node),
-        Err(_) => Err(Stop::Memory),
-    }
+    let node = Node::make(alloc, host, &Limits::SCRATCH)?;
+    serve(alloc, host, node)
 }
 
 /// Makes a store.
@@ -166,7 +137,7 @@ fn create<D: Disk>(alloc: Global, disk: &mut D, limits: Limits) -> Result<(), St
     ensures exists { D.tells → IsTaken (D.state disk.old).files → OnlyBy IsThere result }
     ensures moments { D.tells → AreFree (D.state disk.old) → DiskPasses (IsMaking limits) (D.state disk.old) (D.state disk.new) }
     ensures mark { D.tells → DiskPasses (λ left. Unit {0}) (D.state disk.old) (D.state disk.new) }
-    ensures made { D.tells → OnOk result ((left : Files) → LeavesNow (D.state disk.new) left → StandsFor (first_view limits) left) }
+    ensures made { D.tells → OnOk result ((left : Files) → LeavesNow (D.state disk.new) left → IsFirst limits left) }
     ensures disk_later { (D.state disk.old).disk_faults ≤ (D.state disk.new).disk_faults }
     ensures port_faults { (D.state disk.new).port_faults ≡ (D.state disk.old).port_faults }
 {
@@ -196,7 +167,7 @@ fn perform<H: Host>(alloc: Global, words: &[String], host: &mut H) -> Result<(),
     ensures creating { H.tells → (limits : Limits) → Creates (map string_bytes words.now) limits → AreFree (H.state host.old)
         → DiskPasses (IsMaking limits) (H.state host.old) (H.state host.new) }
     ensures created { H.tells → (limits : Limits) → Creates (map string_bytes words.now) limits
-        → OnOk result ((left : Files) → LeavesNow (H.state host.new) left → StandsFor (first_view limits) left) }
+        → OnOk result ((left : Files) → LeavesNow (H.state host.new) left → IsFirst limits left) }
     ensures making { (limits : Limits) → Creates (map string_bytes words.now) limits → IfErr result IsThere }
 {
     match read_words(alloc, words) {
@@ -215,6 +186,7 @@ fn fail<P: Ports>(ports: &mut P, stop: Stop) -> u8
     ensures status { result ≡ status_of stop }
     ensures later { (P.state ports.old).port_faults ≤ (P.state ports.new).port_faults }
     ensures disk_faults { (P.state ports.new).disk_faults ≡ (P.state ports.old).disk_faults }
+    ensures files { P.tells → (P.state ports.new).files ≡ (P.state ports.old).files }
     ensures told { P.tells → HasTold (P.state ports.old).port_faults (P.state ports.new).port_faults
         (mark_now (P.state ports.old)) (mark_now (P.state ports.new)) (line_of stop) }
     ensures moments { P.tells → PortPasses (λ mark. (mark ≡ mark_now (P.state ports.old))
@@ -261,7 +233,7 @@ pub fn akl<H: Host>(alloc: Global, words: &[String], host: &mut H) -> u8
     ensures creating { H.tells → (limits : Limits) → Creates (map string_bytes words.now) limits → AreFree (H.state host.old)
         → HoldsFrom (H.state host.old).moment (λ mark. Unit {0}) (λ mark disk. IsMaking limits disk) (H.state host.new) }
     ensures created { H.tells → (limits : Limits) → Creates (map string_bytes words.now) limits → result ≡ 0
-        → (left : Files) → LeavesNow (H.state host.new) left → StandsFor (first_view limits) left }
+        → (left : Files) → LeavesNow (H.state host.new) left → IsFirst limits left }
 
     // Where no call of the outside failed, the command is done.
     ensures complete { H.tells → (view : View) → Opens (map string_bytes words.now) (H.state host.old) view → Serves (map string_bytes words.now)

@@ -33,7 +33,7 @@ returns-in-Ok-clause-created g c told limits creates is = c.in-Ok.ensures.create
 pub returns-in-Err-clause-ends : goal.returns-in-Err-clause-ends
 returns-in-Err-clause-ends g c =
     ends_failed _ _ (g.H.Outside.state c.args.host.now) (g.H.Outside.state c.perform.new.host) (g.H.Outside.state c.fail.new.ports) c.in-Err.stop c.fail.result c.fail.ensures.status c.in-Err.ensures.cause
-    c.fail.ensures.disk_faults c.fail.ensures.later c.perform.ensures.port_later c.perform.ensures.silent c.fail.ensures.told
+    c.fail.ensures.disk_faults c.fail.ensures.later c.fail.ensures.files c.perform.ensures.port_later c.perform.ensures.silent c.fail.ensures.told
 
 pub returns-in-Err-clause-no_store : goal.returns-in-Err-clause-no_store
 returns-in-Err-clause-no_store g c told run none = missing_status c.in-Err.stop c.fail.result c.fail.ensures.status (c.in-Err.ensures.no_store told run none)

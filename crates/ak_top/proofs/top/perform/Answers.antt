@@ -3,12 +3,14 @@ use Rattle.std.proofs.lemmas.Result.{IfErr-weaker}
 use Rattle.ak_base.specs.declared.limits.Limits.{Limits}
 use Rattle.ak_host.specs.Files.{Files}
 use Rattle.ak_host.specs.Moments.{DiskPasses, LeavesNow, mark_now, Passes}
-use Rattle.ak_view.specs.Views.{View, StandsFor, first_view}
+use Rattle.ak_node.specs.Opening.{IsFirst}
+use Rattle.ak_world.specs.Views.{View}
 use Rattle.ak_top.specs.Commands.{IsMaking, LeavesBefore}
-use Rattle.ak_top.specs.Ends.{IsEnd, IsScratchStop, IsServing, IsServingOrThere, HasServed}
+use Rattle.ak_top.specs.Ends.{IsEnd, IsRunStop, IsScratchStop, IsServing, IsServingOrThere, HasServed}
 use Rattle.ak_top.specs.Kept.{KeepsFrom}
 use Rattle.ak_top.specs.Told.{IsQuiet}
-use Rattle.ak_top.proofs.Commands.{quiet_passes, keeps_weaker, keeps_starts, leaves_run, leaves_scratch, scratch_end}
+use Rattle.ak_top.proofs.Commands.{quiet_passes, keeps_weaker, keeps_starts, leaves_run, leaves_scratch}
+use Rattle.ak_top.proofs.Stopping.{run_end, scratch_end}
 use Rattle.ak_top.proofs.Words.{are_run, are_none, one_limits, run_command, creates_command, makes_command, serves_command, no_command}
 use Rattle.ak_top.proofs.top.perform.Goals as goal
 
@@ -23,21 +25,36 @@ returns-in-Create-clause-creating g c told limits creates free =
 pub returns-in-Create-clause-created : goal.returns-in-Create-clause-created
 returns-in-Create-clause-created g c told limits creates =
     let same = one_limits (map string_bytes c.args.words.now) c.in-Ok.job c.in-Create.limits limits c.in-Ok.ensures.job c.in-Create.is creates in
-    subst (λ (l : Limits). OnOk c.create.result ((left : Files) → LeavesNow (g.H.Outside.state c.create.new.disk) left → StandsFor (first_view l) left)) same (c.create.ensures.made told)
+    subst (λ (l : Limits). OnOk c.create.result ((left : Files) → LeavesNow (g.H.Outside.state c.create.new.disk) left → IsFirst l left)) same (c.create.ensures.made told)
+
+pub returns-in-Run-clause-cause : goal.returns-in-Run-clause-cause
+returns-in-Run-clause-cause g c =
+    let words = map string_bytes c.args.words.now in
+    let run = are_run words c.in-Ok.job c.in-Ok.ensures.job c.in-Run.is in
+    let old = g.H.Outside.state c.args.host.now in
+    let new = g.H.Outside.state c.run.new.host in
+    IfErr-weaker c.run.result (IsRunStop g.H.Outside.tells old new) (IsEnd words g.H.Outside.tells old new)
+    (run_end words g.H.Outside.tells old new run) c.run.ensures.cause
 
 pub returns-in-Run-clause-quiet : goal.returns-in-Run-clause-quiet
 returns-in-Run-clause-quiet g c told view opens =
-    c.run.ensures.quiet told view (opens.run (are_run (map string_bytes c.args.words.now) c.in-Ok.job c.in-Ok.ensures.job c.in-Run.is))
+    let run = are_run (map string_bytes c.args.words.now) c.in-Ok.job c.in-Ok.ensures.job c.in-Run.is in
+    c.run.ensures.quiet told view (opens.sound run) (opens.run run)
+
+pub returns-in-Run-clause-served : goal.returns-in-Run-clause-served
+returns-in-Run-clause-served g c told view opens serves =
+    let run = are_run (map string_bytes c.args.words.now) c.in-Ok.job c.in-Ok.ensures.job c.in-Run.is in
+    c.run.ensures.served told view (opens.sound run) (opens.run run)
 
 pub returns-in-Run-clause-sound : goal.returns-in-Run-clause-sound
 returns-in-Run-clause-sound g c told view opens serves =
-    IfErr-weaker c.run.result IsServing IsServingOrThere (λ s is. inl is)
-    (c.run.ensures.sound told view (opens.run (are_run (map string_bytes c.args.words.now) c.in-Ok.job c.in-Ok.ensures.job c.in-Run.is)))
+    let run = are_run (map string_bytes c.args.words.now) c.in-Ok.job c.in-Ok.ensures.job c.in-Run.is in
+    IfErr-weaker c.run.result IsServing IsServingOrThere (λ s is. inl is) (c.run.ensures.sound told view (opens.sound run) (opens.run run))
 
 pub returns-in-Run-clause-stands : goal.returns-in-Run-clause-stands
 returns-in-Run-clause-stands g c told view opens serves =
     let run = are_run (map string_bytes c.args.words.now) c.in-Ok.job c.in-Ok.ensures.job c.in-Run.is in
-    keeps_weaker (c.run.ensures.stands told view (opens.run run)) (leaves_run (map string_bytes c.args.words.now) (g.H.Outside.state c.args.host.now) run)
+    keeps_weaker (c.run.ensures.stands told view (opens.sound run) (opens.run run)) (leaves_run (map string_bytes c.args.words.now) (g.H.Outside.state c.args.host.now) run)
 
 pub returns-in-Ok-clause-cause : goal.returns-in-Ok-clause-cause
 returns-in-Ok-clause-cause g c =

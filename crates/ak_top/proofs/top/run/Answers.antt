@@ -1,38 +1,44 @@
+use Rattle.std.proofs.Common.{◌∙◌, ap, arith}
 use Rattle.std.proofs.lemmas.Result.{err_from_is_err_and}
+use Rattle.ak_host.specs.Marks.{Mark}
 use Rattle.ak_host.proofs.Passing.{same_mark}
-use Rattle.ak_top.proofs.Opening.{open_serving}
+use Rattle.ak_node.specs.Calls.{console_of}
 use Rattle.ak_top.proofs.Commands.{quiet_passes}
+use Rattle.ak_top.proofs.Missing.{open_missing}
 use Rattle.ak_top.proofs.Serving.{holds_still, keeps_none, keeps_served, quiet_served, served_from}
+use Rattle.ak_top.proofs.Stopping.{run_stops, stops_serving}
 use Rattle.ak_top.proofs.top.run.Goals as goal
 
-pub returns-in_err-node-clause-quiet : goal.returns-in_err-node-clause-quiet
-returns-in_err-node-clause-quiet g c told view stands =
-    quiet_passes view (c.open_store.ensures.moments told)
-
-pub returns-in_err-node-clause-sound : goal.returns-in_err-node-clause-sound
-returns-in_err-node-clause-sound g c told view stands =
+pub returns-in_err-node-clause-no_store : goal.returns-in_err-node-clause-no_store
+returns-in_err-node-clause-no_store g c told none =
     let p = err_from_is_err_and c.from_residual.result c.from_residual.ensures.1 in
-    rw (p.1, p.2) (open_serving g.H.Outside.tells told (g.H.Outside.state c.args.host.now) (g.H.Outside.state c.open_store.new.disk) view stands c.in_err-node.field-0.0 c.in_err-node.ensures.err)
+    rw (p.1, p.2) (open_missing g.H.Outside.tells told (g.H.Outside.state c.args.host.now) (g.H.Outside.state c.open.new.disk) none c.in_err-node.field-0.0 c.in_err-node.ensures.err)
+
+pub returns-in_err-node-clause-quiet : goal.returns-in_err-node-clause-quiet
+returns-in_err-node-clause-quiet g c told view sound stands = quiet_passes view (c.open.ensures.moments told)
 
 pub returns-in_err-node-clause-stands : goal.returns-in_err-node-clause-stands
-returns-in_err-node-clause-stands g c told view stands =
+returns-in_err-node-clause-stands g c told view sound stands =
     let old = g.H.Outside.state c.args.host.now in
-    let new = g.H.Outside.state c.open_store.new.disk in
-    let run = c.open_store.ensures.moments told in
+    let new = g.H.Outside.state c.open.new.disk in
+    let run = c.open.ensures.moments told in
     keeps_none view old new run.later (holds_still old new (λ disk left. left) run)
 
+pub returns-clause-silent : goal.returns-clause-silent
+returns-clause-silent g c told = c.serve.ensures.silent told ∙ ap (λ (m : Mark). console_of m) (same_mark (c.open.ensures.moments told))
+
 pub returns-clause-quiet : goal.returns-clause-quiet
-returns-clause-quiet g c told view stands =
+returns-clause-quiet g c told view sound stands =
     let old = g.H.Outside.state c.args.host.now in
-    let mid = g.H.Outside.state c.open_store.new.disk in
-    let run = c.open_store.ensures.moments told in
-    let there = c.in_ok-node.ensures.stands told view stands in
+    let mid = g.H.Outside.state c.open.new.disk in
+    let run = c.open.ensures.moments told in
+    let there = c.in_ok-node.ensures.stands told view sound stands in
     quiet_served view c.in_ok-node.node old mid (g.H.Outside.state c.serve.new.host) (same_mark run) there (c.serve.ensures.moments told view there) run
 
 pub returns-clause-served : goal.returns-clause-served
-returns-clause-served g c told view stands =
-    let run = c.open_store.ensures.moments told in
-    let there = c.in_ok-node.ensures.stands told view stands in
+returns-clause-served g c told view sound stands =
+    let run = c.open.ensures.moments told in
+    let there = c.in_ok-node.ensures.stands told view sound stands in
     served_from view _ _ (g.H.Outside.state c.serve.new.host) c.serve.result (same_mark run) (record {
       done = c.serve.ensures.done told view there;
       kept = c.serve.ensures.kept told view there;
@@ -43,10 +49,21 @@ returns-clause-served g c told view stands =
       worn = c.serve.ensures.worn told view there;
     })
 
+pub returns-clause-cause : goal.returns-clause-cause
+returns-clause-cause g c =
+    run_stops g.H.Outside.tells (g.H.Outside.state c.args.host.now) (g.H.Outside.state c.open.new.disk) (g.H.Outside.state c.serve.new.host) c.serve.result
+    c.open.ensures.disk_later (omega (arith, c.open.ensures.port_faults))
+    (λ told view sound stands. (returns-clause-served g c told view sound stands).worn) c.serve.ensures.cause
+
+pub returns-clause-sound : goal.returns-clause-sound
+returns-clause-sound g c told view sound stands =
+    let there = c.in_ok-node.ensures.stands told view sound stands in
+    stops_serving g.H.Outside.tells (g.H.Outside.state c.open.new.disk) (g.H.Outside.state c.serve.new.host) c.serve.result c.serve.ensures.cause (c.serve.ensures.sound told view there)
+
 pub returns-clause-stands : goal.returns-clause-stands
-returns-clause-stands g c told view stands =
+returns-clause-stands g c told view sound stands =
     let old = g.H.Outside.state c.args.host.now in
-    let mid = g.H.Outside.state c.open_store.new.disk in
-    let run = c.open_store.ensures.moments told in
-    let there = c.in_ok-node.ensures.stands told view stands in
+    let mid = g.H.Outside.state c.open.new.disk in
+    let run = c.open.ensures.moments told in
+    let there = c.in_ok-node.ensures.stands told view sound stands in
     keeps_served view c.in_ok-node.node old mid (g.H.Outside.state c.serve.new.host) (same_mark run) there (c.serve.ensures.moments told view there) run.later (holds_still old mid (λ disk left. left) run)

@@ -1,10 +1,10 @@
-use Rattle.std.proofs.Common.{◌≤◌}
+use Rattle.std.proofs.Common.{◌≡◌, ◌≤◌, None}
 use Rattle.ak_host.specs.Moments.{Passes, mark_now}
-use Rattle.ak_view.specs.Views.{View}
-use Rattle.ak_top.specs.Calls.{IsSilent}
+use Rattle.ak_world.specs.Views.{View}
+use Rattle.ak_node.specs.Calls.{IsSilent}
 use Rattle.ak_top.specs.Kept.{IsKept}
 use Rattle.ak_run.specs.Run.{world_of}
-use Rattle.ak_top.specs.Standing.{CanServe, Stands}
+use Rattle.ak_node.specs.Standing.{CanServe, Stands}
 use Rattle.ak_top.specs.Told.{IsQuiet}
 use Rattle.ak_top.proofs.Runs.{Running}
 use Rattle.ak_top.proofs.top.serve.Given as goal
@@ -14,6 +14,7 @@ invariant-loop-turn g l = record {
   disk_later : (g.H.Outside.state l.fn.host).disk_faults ≤ (g.H.Outside.state l.host).disk_faults;
   port_later : (g.H.Outside.state l.fn.host).port_faults ≤ (g.H.Outside.state l.host).port_faults;
   silent : g.H.Outside.tells → IsSilent (g.H.Outside.state l.fn.host) (g.H.Outside.state l.host);
+  fresh : l.node.stop ≡ None;
   ready : CanServe g.H.Outside.tells l.node (g.H.Outside.state l.host);
   running : g.H.Outside.tells → (view : View) → Stands l.fn.node (world_of view) (g.H.Outside.state l.fn.host)
       → Running view (mark_now (g.H.Outside.state l.fn.host)) (mark_now (g.H.Outside.state l.host)) l.node (g.H.Outside.state l.host) l._turn;

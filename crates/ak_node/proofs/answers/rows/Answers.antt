@@ -1,0 +1,55 @@
+use Rattle.std.proofs.Common.{rules, ◌≡◌, sym, ◌∙◌}
+use Rattle.std.proofs.lemmas.Result.{on_ok_weaker}
+use Rattle.ak_host.specs.Moments.{mark_now}
+use Rattle.ak_host.proofs.Passing.{ports_leave}
+use Rattle.ak_run.specs.declared.asked.Asked.TheVariants.{Rows}
+use Rattle.ak_run.specs.Replies.{bulk_reply, rows_of}
+use Rattle.ak_node.proofs.Answering.{holds_asked, disk_part, told_asked, reply_part, rows_bytes, reads_leave}
+use Rattle.ak_node.proofs.Staying.{holds_after_ports, ready_after_ports, ok_is}
+use Rattle.ak_node.proofs.Stopping.{stops_on}
+use Rattle.ak_node.proofs.answers.rows.Goals as goal
+
+pub returns-in_err-write_metric-clause-moments : goal.returns-in_err-write_metric-clause-moments
+returns-in_err-write_metric-clause-moments g c told content holds =
+    let old = g.H.Outside.state c.args.host.now in
+    disk_part c.args.port content (Rows c.args.metric.now) holds.keeps.not_worn (reads_leave content c.args.keeper.now old (g.H.Outside.state c.write_metric.new.disk) holds (c.write_metric.ensures.moments told))
+
+pub returns-in-Ok-clause-stops : goal.returns-in-Ok-clause-stops
+returns-in-Ok-clause-stops g c = stops_on _ _ _ _ _ _ c.write_metric.result c.tell.result c.write_metric.ensures.stops (c.tell.ensures.stops _)
+
+pub returns-in-Ok-clause-ready : goal.returns-in-Ok-clause-ready
+returns-in-Ok-clause-ready g c =
+    ok_is c.tell.result (ready_after_ports g.H.Outside.tells c.write_metric.new.keeper (g.H.Outside.state c.write_metric.new.disk) (g.H.Outside.state c.tell.new.host) c.write_metric.ensures.ready
+    (c.tell.ensures.stops c.write_metric.new.keeper.forest.meta).sizes c.tell.ensures.files (λ told. ports_leave (c.tell.ensures.moments told)))
+
+pub returns-in-Ok-clause-after : goal.returns-in-Ok-clause-after
+returns-in-Ok-clause-after g c told content holds =
+    ok_is c.tell.result (holds_asked c.args.port content (Rows c.args.metric.now) holds.keeps.not_worn c.write_metric.new.keeper (g.H.Outside.state c.tell.new.host)
+    (holds_after_ports content c.write_metric.new.keeper (g.H.Outside.state c.write_metric.new.disk) (g.H.Outside.state c.tell.new.host)
+    (c.write_metric.ensures.holds told content holds) (c.tell.ensures.files told) (c.tell.ensures.moments told)))
+
+pub returns-in-Ok-clause-told : goal.returns-in-Ok-clause-told
+returns-in-Ok-clause-told g c told content holds =
+    let old = g.H.Outside.state c.args.host.now in
+    let text = c.in_ok-write_metric.ensures.rows told content holds in
+    let rows : c.as_slice.result.now ≡ rows_of content c.args.metric.now = search rules in
+    let reply : c.as_slice-in-Ok.result.now ≡ bulk_reply c.as_slice.result.now = search rules in
+    on_ok_weaker c.tell.result
+    (told_asked c.args.port content (Rows c.args.metric.now) holds.keeps.not_worn (reads_leave content c.args.keeper.now old (g.H.Outside.state c.write_metric.new.disk) holds (c.write_metric.ensures.moments told))
+    c.as_slice-in-Ok.result.now (rows_bytes c.args.port content c.args.metric.now c.as_slice.result.now holds.keeps.not_worn rows ∙ sym reply) (mark_now (g.H.Outside.state c.tell.new.host)))
+    (c.tell.ensures.told told)
+
+pub returns-in-Ok-clause-moments : goal.returns-in-Ok-clause-moments
+returns-in-Ok-clause-moments g c told content holds =
+    let old = g.H.Outside.state c.args.host.now in
+    let text = c.in_ok-write_metric.ensures.rows told content holds in
+    let rows : c.as_slice.result.now ≡ rows_of content c.args.metric.now = search rules in
+    let reply : c.as_slice-in-Ok.result.now ≡ bulk_reply c.as_slice.result.now = search rules in
+    reply_part c.args.port content (Rows c.args.metric.now) holds.keeps.not_worn (reads_leave content c.args.keeper.now old (g.H.Outside.state c.write_metric.new.disk) holds (c.write_metric.ensures.moments told))
+    c.as_slice-in-Ok.result.now (rows_bytes c.args.port content c.args.metric.now c.as_slice.result.now holds.keeps.not_worn rows ∙ sym reply)
+    c.write_metric.new.keeper (c.write_metric.ensures.holds told content holds) (c.tell.ensures.moments told)
+
+pub returns-clause-moments : goal.returns-clause-moments
+returns-clause-moments g c told content holds =
+    let old = g.H.Outside.state c.args.host.now in
+    disk_part c.args.port content (Rows c.args.metric.now) holds.keeps.not_worn (reads_leave content c.args.keeper.now old (g.H.Outside.state c.write_metric.new.disk) holds (c.write_metric.ensures.moments told))

@@ -1,0 +1,9 @@
+pub mod Damage
+pub mod Reads
+pub mod Walks
+pub mod Calls
+pub mod Standing
+pub mod Pieces
+pub mod Names
+pub mod Queries
+pub mod Opening

@@ -1,0 +1,14 @@
+//! The node: a store that is open, its sessions, and what turns make of them.
+#![tactic(auto)]
+
+mod answers;
+mod keeper;
+mod look;
+mod node;
+mod opening;
+mod puts;
+mod reading;
+mod rows;
+mod session;
+
+pub use node::{Node, Went};

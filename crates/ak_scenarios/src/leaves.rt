@@ -1,0 +1,218 @@
+//! Leaves on the disk, and what fills a store.
+ghost use Rattle.std.specs.Prelude.{◌≡◌, ◌<◌, true, length, slice_index};
+
+use crate::stops::{NO_POINT, ONE_POINT, QUERY, RUN, call, last_moment, made, perform, shows};
+use crate::tests::cut;
+use ak_base::Bytes;
+use ak_host::Disk;
+use ak_memhost::MemHost;
+use std::alloc::{AllocError, Global};
+use std::test::Fail;
+
+const CREATE: &str = "create d --volumes 2 --blocks 16 --slot 1 --pool 4 --every 1000 --scale 0";
+
+// A point of `cpu` at each time from 1 on, with two values in turn.
+fn points(alloc: Global, count: u64, values: [&[u8]; 2]) -> Result<Bytes, AllocError> {
+    let mut stream = Bytes::new(alloc);
+    for time in 1..count.saturating_add(1) {
+        stream.extend(alloc, b"+cpu\r\n:")?;
+        stream.extend_decimal(alloc, time)?;
+        stream.extend(alloc, b"\r\n:")?;
+        stream.extend(alloc, if time % 2 == 1 { values[0] } else { values[1] })?;
+        stream.extend(alloc, b"\r\n")?;
+    }
+    Ok(stream)
+}
+
+// The answer to a query of them.
+fn rows(alloc: Global, count: u64, values: [&[u8]; 2]) -> Result<Bytes, AllocError> {
+    let mut text = Bytes::new(alloc);
+    for time in 1..count.saturating_add(1) {
+        text.extend(alloc, b"cpu,")?;
+        text.extend_decimal(alloc, time)?;
+        text.extend(alloc, b",")?;
+        text.extend(alloc, if time % 2 == 1 { values[0] } else { values[1] })?;
+        text.extend(alloc, b"\n")?;
+    }
+    let mut answer = Bytes::new(alloc);
+    answer.extend(alloc, b"$")?;
+    answer.extend_decimal(alloc, text.as_slice().len() as u64)?;
+    answer.extend(alloc, b"\r\n")?;
+    answer.extend(alloc, text.as_slice())?;
+    answer.extend(alloc, b"\r\n")?;
+    Ok(answer)
+}
+
+// A leaf takes 2016 points of two bytes, or 366 of eleven. One point more is one write more: the end of the run closes the
+// open leaf, and takes a view by two writes.
+#[test]
+fn full_leaves(rt: HostRuntime) -> Result<(), Fail> {
+    let alloc = rt.alloc();
+    let zeros: [&[u8]; 2] = [b"0", b"0"];
+    let extremes: [&[u8]; 2] = [b"9223372036854775807", b"-9223372036854775808"];
+    let runs: [(u64, [&[u8]; 2], u64); 4] = [
+        (2016, zeros, 3),
+        (2017, zeros, 4),
+        (366, extremes, 3),
+        (367, extremes, 4),
+    ];
+    for (count, values, writes) in runs {
+        let mut host = made(&rt, alloc, CREATE)?;
+        let mut stream = points(alloc, count, values)?;
+        stream.extend(alloc, QUERY)?;
+        let status = call(alloc, &mut host, RUN, stream.as_slice())?;
+        let answer = rows(alloc, count, values)?;
+        assert_eq!(rt; status, 0);
+        assert_eq!(rt; host.told(1), answer.as_slice());
+        assert_eq!(rt; host.writes(), writes);
+        shows(
+            &rt,
+            alloc,
+            &host,
+            last_moment(&host),
+            &[],
+            answer.as_slice(),
+        )?;
+    }
+    Ok(())
+}
+
+// Five series share four frames. The first is closed by the fifth, and read from the disk then.
+#[test]
+fn more_series_than_frames(rt: HostRuntime) -> Result<(), Fail> {
+    let alloc = rt.alloc();
+    let mut host = made(&rt, alloc, CREATE)?;
+    let mut stream = Bytes::new(alloc);
+    for host_name in [b"a", b"b", b"c", b"d", b"e", b"a"] {
+        stream.extend(alloc, b"+cpu host=")?;
+        stream.extend(alloc, host_name)?;
+        stream.extend(alloc, b"\r\n:1\r\n:1\r\n")?;
+    }
+    stream.extend(alloc, QUERY)?;
+    let status = call(alloc, &mut host, RUN, stream.as_slice())?;
+    assert_eq!(rt; status, 0);
+    assert_eq!(rt;
+        host.told(1),
+        b"$90\r\ncpu host=a,1,1\ncpu host=a,1,1\ncpu host=b,1,1\ncpu host=c,1,1\ncpu host=d,1,1\ncpu host=e,1,1\n\r\n".as_slice()
+    );
+    // two leaves are closed for want of a frame, four by the end of the run, and two writes take its view
+    assert_eq!(rt; host.writes(), 8);
+    Ok(())
+}
+
+// Leaves 0 to 15 fill ordinal 0, and leaves 16 to 30 all but one block of ordinal 1. The group of leaf 31 has two blocks, and
+// no volume is left for another ordinal.
+#[test]
+fn a_used_up_store_is_worn(rt: HostRuntime) -> Result<(), Fail> {
+    let alloc = rt.alloc();
+    let mut host = made(&rt, alloc, CREATE)?;
+    let mut stream = Bytes::new(alloc);
+    let mut told = Bytes::new(alloc);
+    for time in 1..33 {
+        stream.extend(alloc, b"+cpu\r\n:")?;
+        stream.extend_decimal(alloc, time)?;
+        stream.extend(alloc, b"\r\n:0\r\n+!flush\r\n")?;
+        if time < 32 {
+            told.extend(alloc, b"+OK\r\n")?;
+        }
+    }
+    let status = call(alloc, &mut host, RUN, stream.as_slice())?;
+    assert_eq!(rt; status, 7);
+    assert_eq!(rt; host.told(0), b"akl: store worn\n".as_slice());
+    assert_eq!(rt; host.told(1), told.as_slice());
+    let zeros: [&[u8]; 2] = [b"0", b"0"];
+    let answer = rows(alloc, 31, zeros)?;
+    shows(
+        &rt,
+        alloc,
+        &host,
+        last_moment(&host),
+        &[],
+        answer.as_slice(),
+    )
+}
+
+// 31 series with names of 20 bytes take 3970 of the 4096 bytes of a slot. One with 21 bytes is refused, and one with 20
+// accepted. A point of a known series needs no room.
+#[test]
+fn metadata_full(rt: HostRuntime) -> Result<(), Fail> {
+    let alloc = rt.alloc();
+    let mut host = made(
+        &rt,
+        alloc,
+        "create d --volumes 2 --blocks 64 --slot 1 --pool 64 --every 1000 --scale 0",
+    )?;
+    let mut stream = Bytes::new(alloc);
+    for number in 0..31 {
+        stream.extend(alloc, b"+m")?;
+        stream.extend_decimal(alloc, 1_000_000_000_000_000_000 + number)?;
+        stream.extend(alloc, b"\r\n:1\r\n:0\r\n")?;
+    }
+    stream.extend(
+        alloc,
+        b"+m10000000000000000000\r\n:1\r\n:0\r\n+m1000000000000000099\r\n:1\r\n:0\r\n+m\r\n:1\r\n:0\r\n\
++m1000000000000000030\r\n:2\r\n:5\r\n+!query\r\n$33\r\n{\"select\":\"m1000000000000000030\"}\r\n",
+    )?;
+    let status = call(alloc, &mut host, RUN, stream.as_slice())?;
+    assert_eq!(rt; status, 0);
+    assert_eq!(rt;
+        host.told(1),
+        b"-ERR 26 metadata full, need 4097 room 4096\r\n-ERR 26 metadata full, need 4203 room 4096\r\n\
+$50\r\nm1000000000000000030,1,0\nm1000000000000000030,2,5\n\r\n"
+            .as_slice()
+    );
+    Ok(())
+}
+
+const POINT: &[u8] = b"+cpu\r\n:1\r\n:1\r\n+!flush\r\n";
+
+// The status of a run in which one call fails.
+fn failing(alloc: Global, host: &mut MemHost, number: u64) -> Result<u8, AllocError> {
+    let turns = cut(alloc, POINT, 4096)?;
+    host.load(alloc, turns.as_slice(), &[number])?;
+    perform(alloc, host, RUN)
+}
+
+// The first call of the ports gives the turn, and the next call writes the leaf.
+#[test]
+fn failed_leaf_write(rt: HostRuntime) -> Result<(), Fail> {
+    let alloc = rt.alloc();
+    for number in 0..100 {
+        let mut host = made(&rt, alloc, CREATE)?;
+        if failing(alloc, &mut host, number)? == 4 {
+            let mut host = made(&rt, alloc, CREATE)?;
+            assert_eq!(rt; failing(alloc, &mut host, number + 1)?, 3);
+            assert_eq!(rt; host.told(1), b"".as_slice());
+            assert_eq!(rt; host.told(0), b"akl: disk failed\n".as_slice());
+            return shows(&rt, alloc, &host, last_moment(&host), &[], NO_POINT);
+        }
+    }
+    assert!(rt; false);
+    Ok(())
+}
+
+// Whether a block of a file is there.
+fn is_block<D: Disk>(disk: &D, file: u32, index: u32) -> bool
+    ensures { result ≡ true → (file < length (D.state disk.now).sizes) × (index < slice_index (D.state disk.now).sizes file) }
+{
+    file < disk.files() && index < disk.blocks(file)
+}
+
+// A leaf that was overwritten is told by the query that reads it.
+#[test]
+fn a_zeroed_leaf_is_told(rt: HostRuntime) -> Result<(), Fail> {
+    let alloc = rt.alloc();
+    let mut host = made(&rt, alloc, CREATE)?;
+    let status = call(alloc, &mut host, RUN, POINT)?;
+    assert_eq!(rt; status, 0);
+    shows(&rt, alloc, &host, last_moment(&host), &[], ONE_POINT)?;
+    host.load(alloc, &[], &[])?;
+    let is_there = is_block(&host, 1, 0) && host.moments() == 1;
+    assert!(rt; is_there);
+    host.plant(1, 0, &[0; 4096]);
+    let status = call(alloc, &mut host, RUN, QUERY)?;
+    assert_eq!(rt; status, 2);
+    assert_eq!(rt; host.told(1), b"".as_slice());
+    assert_eq!(rt; host.told(0), b"akl: damaged file 1 block 0\n".as_slice());
+    Ok(())
+}

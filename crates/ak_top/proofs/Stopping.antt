@@ -1,0 +1,156 @@
+-- Stops that are handed on.
+use Rattle.std.proofs.Common.{◌≡◌, ◌⊎◌, inl, inr, ℕ, ◌≤◌, true, List, [], Result, Ok, Err, IfErr, refl, sym, subst, arith}
+use Rattle.std.specs.Result.{IsErrAnd}
+use Rattle.ak_base.specs.declared.stop.Stop.{Stop}
+use Rattle.ak_base.specs.declared.stop.Stop.TheVariants.{Usage, Damaged, Disk, Port, Memory, Budget, Worn, NoStore, Exists}
+use Rattle.ak_host.specs.Moments.{HostState, mark_now}
+use Rattle.ak_image.specs.Images.{IsSound, StandsFor}
+use Rattle.ak_meta.specs.Contents.{Content}
+use Rattle.ak_node.specs.Calls.{IsNodeStop, IsSoundStop}
+use Rattle.ak_node.specs.Damage.{IsDamagedLeaf}
+use Rattle.ak_record.specs.Stops.{IsDamaged}
+use Rattle.ak_tree.specs.Stops.{IsWornBy, OnWorn}
+use Rattle.ak_world.specs.Views.{View, first_view}
+use Rattle.ak_world.specs.Worlds.{World as Store}
+use Rattle.ak_top.specs.Calls.{IsServeStop, HasServeStops}
+use Rattle.ak_top.specs.Commands.{IsRun, scratch_limits}
+use Rattle.ak_top.specs.Ends.{IsEnd, IsRunDamage, IsRunStop, IsScratchStop, IsServing}
+use Rattle.ak_top.specs.Told.{HasWorn}
+
+-- ---- Worn stores
+
+-- the same stop from another call, with more said of it
+pub worn_on : (T U : Type 0) {P Q : Stop → Type 0} (stop : Stop) → ((s : Stop) → P s → Q s) → OnWorn {T = T} (Err stop) P → OnWorn {T = U} (Err stop) Q
+worn_on T U (Worn ordinal fill number) follows p = follows (Worn ordinal fill number) p
+worn_on T U Disk follows p = tt
+worn_on T U Memory follows p = tt
+worn_on T U Usage follows p = tt
+worn_on T U (Damaged file block) follows p = tt
+worn_on T U Port follows p = tt
+worn_on T U Budget follows p = tt
+worn_on T U NoStore follows p = tt
+worn_on T U Exists follows p = tt
+
+pub worn_handed : (T : Type 0) {U : Type 0} {P Q : Stop → Type 0} (r : Result U Stop) (stop : Stop) → IsErrAnd r (λ e. e ≡ stop) → ((s : Stop) → P s → Q s) → OnWorn {T = T} (Err stop) P → OnWorn r Q
+worn_handed T (Ok v) stop err follows p = absurd err
+worn_handed T {U = U} {P = P} (Err e) stop same follows p = worn_on T U e follows (subst (λ (x : Stop). OnWorn {T = T} (Err x) P) (sym same) p)
+
+-- a stop that tells that a store is worn has one
+pub told_worn : (w : Store) (s : Stop) → IsWornBy w s → w.worn ≡ true
+told_worn w (Worn ordinal fill number) told = told.worn
+told_worn w Disk told = absurd told
+told_worn w Memory told = absurd told
+told_worn w Usage told = absurd told
+told_worn w (Damaged file block) told = absurd told
+told_worn w Port told = absurd told
+told_worn w Budget told = absurd told
+told_worn w NoStore told = absurd told
+told_worn w Exists told = absurd told
+
+-- ---- Causes
+
+-- the cause of a stop is one from any moment before
+pub node_later : (told : Type 0) (c : Content) (old mid new : HostState) (s : Stop) → old.disk_faults ≤ mid.disk_faults → old.port_faults ≤ mid.port_faults → IsNodeStop told c mid new s → IsNodeStop told c old new s
+node_later told c old mid new Memory disk port why = tt
+node_later told c old mid new Disk disk port why = omega (arith, why, disk)
+node_later told c old mid new Port disk port why = omega (arith, why, port)
+node_later told c old mid new (Damaged file block) disk port why = why
+node_later told c old mid new (Worn ordinal fill number) disk port why = tt
+node_later told c old mid new Usage disk port why = absurd why
+node_later told c old mid new Budget disk port why = absurd why
+node_later told c old mid new NoStore disk port why = absurd why
+node_later told c old mid new Exists disk port why = absurd why
+
+-- what a stop as a run is served says of worn stores
+abbrev WornAs : Stop → (Stop → Type 0) → Type 0
+WornAs s P = OnWorn {T = Unit {0}} (Err s) P
+
+served_run : (told : Type 0) (old mid new : HostState) (s : Stop) → old.disk_faults ≤ mid.disk_faults → old.port_faults ≤ mid.port_faults
+    → (told → (view : View) → IsSound old.files → StandsFor view old.files → WornAs s (HasWorn view (mark_now old) (mark_now new))) → IsServeStop told mid new s → IsRunStop told old new s
+served_run told old mid new Memory disk port worn (inl why) = tt
+served_run told old mid new Disk disk port worn (inl why) = omega (arith, why.1, disk)
+served_run told old mid new Port disk port worn (inl why) = omega (arith, why.1, port)
+served_run told old mid new (Worn ordinal fill number) disk port worn (inl why) = worn
+served_run told old mid new (Damaged file block) disk port worn (inl why) = λ t. inr (why.0, why.1 t)
+served_run told old mid new Usage disk port worn (inl why) = absurd why.1
+served_run told old mid new Budget disk port worn (inl why) = absurd why.1
+served_run told old mid new NoStore disk port worn (inl why) = absurd why.1
+served_run told old mid new Exists disk port worn (inl why) = absurd why.1
+served_run told old mid new s disk port worn (inr is) = subst (IsRunStop told old new) (sym is) tt
+
+-- why a run stops as it is served
+pub run_stops : (told : Type 0) (old mid new : HostState) (r : Result (Unit {0}) Stop) → old.disk_faults ≤ mid.disk_faults → old.port_faults ≤ mid.port_faults
+    → (told → (view : View) → IsSound old.files → StandsFor view old.files → OnWorn r (HasWorn view (mark_now old) (mark_now new))) → HasServeStops told mid new r → IfErr r (IsRunStop told old new)
+run_stops told old mid new (Ok v) disk port worn stops = tt
+run_stops told old mid new (Err s) disk port worn stops = served_run told old mid new s disk port worn stops.stops
+
+served_scratch : (told : Type 0) (old mid new : HostState) (s : Stop) → old.disk_faults ≤ mid.disk_faults → old.port_faults ≤ mid.port_faults
+    → (told → WornAs s (HasWorn (first_view scratch_limits) (mark_now old) (mark_now new))) → IsServeStop told mid new s → IsScratchStop told old new s
+served_scratch told old mid new Memory disk port worn (inl why) = tt
+served_scratch told old mid new Disk disk port worn (inl why) = omega (arith, why.1, disk)
+served_scratch told old mid new Port disk port worn (inl why) = omega (arith, why.1, port)
+served_scratch told old mid new (Worn ordinal fill number) disk port worn (inl why) = worn
+served_scratch told old mid new (Damaged file block) disk port worn (inl why) = λ t. (why.0, why.1 t)
+served_scratch told old mid new Usage disk port worn (inl why) = absurd why.1
+served_scratch told old mid new Budget disk port worn (inl why) = absurd why.1
+served_scratch told old mid new NoStore disk port worn (inl why) = absurd why.1
+served_scratch told old mid new Exists disk port worn (inl why) = absurd why.1
+served_scratch told old mid new s disk port worn (inr is) = subst (IsScratchStop told old new) (sym is) tt
+
+-- the same where it was made
+pub scratch_stops : (told : Type 0) (old mid new : HostState) (r : Result (Unit {0}) Stop) → old.disk_faults ≤ mid.disk_faults → old.port_faults ≤ mid.port_faults
+    → (told → OnWorn r (HasWorn (first_view scratch_limits) (mark_now old) (mark_now new))) → HasServeStops told mid new r → IfErr r (IsScratchStop told old new)
+scratch_stops told old mid new (Ok v) disk port worn stops = tt
+scratch_stops told old mid new (Err s) disk port worn stops = served_scratch told old mid new s disk port worn stops.stops
+
+pub run_end : (words : List (List ℕ)) (told : Type 0) (old new : HostState) → IsRun words → (s : Stop) → IsRunStop told old new s → IsEnd words told old new s
+run_end words told old new run Usage h = absurd h
+run_end words told old new run (Damaged file block) h = (inl run, λ t. damaged (h t))
+  where
+    damaged : IsDamaged file block old.files ⊎ ((c : Content) × IsDamagedLeaf c file block new.files) → IsRunDamage words old new file block
+    damaged (inl before) = inl (run, before)
+    damaged (inr leaf) = inr leaf
+run_end words told old new run Disk h = h
+run_end words told old new run Port h = h
+run_end words told old new run Memory h = h
+run_end words told old new run Budget h = inl run
+run_end words told old new run (Worn ordinal fill number) h = (inl run, λ t view opens. h t view (opens.sound run) (opens.run run))
+run_end words told old new run NoStore h = (run, h)
+run_end words told old new run Exists h = absurd h
+
+pub scratch_end : (words : List (List ℕ)) (told : Type 0) (old new : HostState) → words ≡ [] → (s : Stop) → IsScratchStop told old new s → IsEnd words told old new s
+scratch_end words told old new none Usage h = absurd h
+scratch_end words told old new none (Damaged file block) h = (inr none, λ t. inr (h t))
+scratch_end words told old new none Disk h = h
+scratch_end words told old new none Port h = h
+scratch_end words told old new none Memory h = h
+scratch_end words told old new none Budget h = inr none
+scratch_end words told old new none (Worn ordinal fill number) h = (inr none, λ t view opens. subst (λ (v : View). HasWorn v (mark_now old) (mark_now new) (Worn ordinal fill number)) (sym (opens.scratch none)) (h t))
+scratch_end words told old new none NoStore h = absurd h
+scratch_end words told old new none Exists h = (scratch_limits, inr (none, refl), h)
+
+-- ---- Stops over a sound disk
+
+-- as it is opened
+pub open_serving : (s : Stop) → (s ≡ Disk) ⊎ (s ≡ Memory) → IsServing s
+open_serving s (inl disk) = inl disk
+open_serving s (inr memory) = inr (inr (inl memory))
+
+serve_serving : (told : Type 0) (old new : HostState) (s : Stop) → IsServeStop told old new s → IsSoundStop s → IsServing s
+serve_serving told old new Disk why sound = inl refl
+serve_serving told old new Port why sound = inr (inl refl)
+serve_serving told old new Memory why sound = inr (inr (inl refl))
+serve_serving told old new Budget why sound = inr (inr (inr (inl refl)))
+serve_serving told old new (Worn ordinal fill number) why sound = inr (inr (inr (inr (ordinal, fill, number, refl))))
+serve_serving told old new (Damaged file block) why sound = absurd sound
+serve_serving told old new Usage (inl why) sound = absurd why.1
+serve_serving told old new Usage (inr is) sound = cc
+serve_serving told old new NoStore (inl why) sound = absurd why.1
+serve_serving told old new NoStore (inr is) sound = cc
+serve_serving told old new Exists (inl why) sound = absurd why.1
+serve_serving told old new Exists (inr is) sound = cc
+
+-- as it is served
+pub stops_serving : (told : Type 0) (old new : HostState) (r : Result (Unit {0}) Stop) → HasServeStops told old new r → IfErr r IsSoundStop → IfErr r IsServing
+stops_serving told old new (Ok v) stops sound = tt
+stops_serving told old new (Err s) stops sound = serve_serving told old new s stops.stops sound

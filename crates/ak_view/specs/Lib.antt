@@ -1,4 +1,0 @@
-pub mod Payload
-pub mod Views
-pub mod Stops
-pub mod Bodies
