@@ -1,5 +1,6 @@
 pub mod AddingSeries
 pub mod Appended
+pub mod Becoming
 pub mod Closed
 pub mod Entering
 pub mod Framing

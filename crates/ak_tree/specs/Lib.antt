@@ -3,3 +3,4 @@ pub mod Writing
 pub mod Storing
 pub mod Standing
 pub mod Adding
+pub mod Later

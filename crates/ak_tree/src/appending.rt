@@ -5,6 +5,7 @@ ghost use Rattle.ak_leaf.specs.Spelling.{leaf_size};
 ghost use Rattle.ak_meta.specs.Contents.{names_of};
 ghost use Rattle.ak_pool.specs.Frames.{frames_of, used_frame, leaf_of, moved_first, with_leaf};
 ghost use Rattle.ak_pool.specs.declared.pool.Frame.{Frame};
+ghost use Rattle.ak_tree.specs.Later.{Becomes};
 ghost use Rattle.ak_tree.specs.Standing.{Holds, IsReady, last_known};
 ghost use Rattle.ak_tree.specs.Stops.{HasTreeStops, OnWorn, IsWornBy};
 ghost use Rattle.ak_tree.specs.Storing.{LeavesView};
@@ -65,6 +66,7 @@ impl Forest {
         ensures ready { OnOk result (IsReady D.tells self.new (D.state disk.new)) }
         ensures names { names_of self.new.meta.series ≡ names_of self.old.meta.series }
         ensures limits { self.new.meta.limits ≡ self.old.meta.limits }
+        ensures becomes { OnOk result (Becomes self.old.meta self.new.meta) }
         ensures others { (n : ℕ) → get_or self.old.frames n None ≡ None → OnOk result (get_or self.new.frames n None ≡ None) }
         ensures fewer { OnOk result (suc (length self.new.pool.used) ≡ length self.old.pool.used) }
         ensures last { (n : ℕ) → OnOk result (last_known self.new n ≡ last_known self.old n) }
@@ -89,6 +91,7 @@ impl Forest {
         ensures ready { OnOk result (IsReady D.tells self.new (D.state disk.new)) }
         ensures names { names_of self.new.meta.series ≡ names_of self.old.meta.series }
         ensures limits { self.new.meta.limits ≡ self.old.meta.limits }
+        ensures becomes { OnOk result (Becomes self.old.meta self.new.meta) }
         ensures last { (n : ℕ) → OnOk result (last_known self.new n ≡ last_known self.old n) }
         ensures reads { D.tells → (D.state disk.new).reads ≡ (D.state disk.old).reads }
         ensures worn { D.tells → (w : World) → Holds w self.old (D.state disk.old) → OnWorn result (IsWornBy (in_time w)) }
@@ -120,6 +123,7 @@ impl Forest {
         ensures ready { OnOk result (IsReady D.tells self.new (D.state disk.new)) }
         ensures names { names_of self.new.meta.series ≡ names_of self.old.meta.series }
         ensures limits { self.new.meta.limits ≡ self.old.meta.limits }
+        ensures becomes { OnOk result (Becomes self.old.meta self.new.meta) }
         ensures last { (n most : ℕ) → p.ts ≤ most → IfSome (last_known self.old n) (λ last. last ≤ most) → OnOk result (IfSome (last_known self.new n) (λ last. last ≤ most)) }
         ensures reads { D.tells → (D.state disk.new).reads ≡ (D.state disk.old).reads }
         ensures worn { D.tells → (w : World) → Holds w self.old (D.state disk.old) → OnWorn result (IsWornBy (unless_worn (unless_worn w (made_room series)) (added series p))) }
@@ -157,6 +161,7 @@ impl Forest {
         ensures ready { OnOk result (IsReady D.tells self.new (D.state disk.new)) }
         ensures names { names_of self.new.meta.series ≡ names_of self.old.meta.series }
         ensures limits { self.new.meta.limits ≡ self.old.meta.limits }
+        ensures becomes { OnOk result (Becomes self.old.meta self.new.meta) }
         // No last timestamp comes to be above one that the point isn't above.
         ensures last { (n most : ℕ) → p.ts ≤ most → IfSome (last_known self.old n) (λ last. last ≤ most) → OnOk result (IfSome (last_known self.new n) (λ last. last ≤ most)) }
         ensures reads { D.tells → (D.state disk.new).reads ≡ (D.state disk.old).reads }

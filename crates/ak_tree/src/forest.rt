@@ -6,6 +6,7 @@ ghost use Rattle.ak_meta.specs.Contents.{IsMeta, IsCanonical, size_of, names_of}
 ghost use Rattle.ak_meta.specs.Leaves.{with_series};
 ghost use Rattle.ak_pool.specs.Frames.{frames_of};
 ghost use Rattle.ak_tree.specs.Adding.{IsAddError};
+ghost use Rattle.ak_tree.specs.Later.{Becomes};
 ghost use Rattle.ak_tree.specs.Standing.{AreTrees, Keeps, last_known, leaf_in};
 ghost use Rattle.ak_world.specs.Valid.{AreOpenable};
 ghost use Rattle.ak_world.specs.Puts.{with_name};
@@ -101,6 +102,7 @@ impl Forest {
         requires canonical { IsCanonical name.now }
         requires new { list_any (λ n. bytes_eq name.now n) (names_of self.old.meta.series) ≡ false }
         ensures ok { OnOk result (self.new ≡ record self.old { meta = with_series self.old.meta name.now; frames = self.old.frames ++ None ∷ [] }) }
+        ensures becomes { OnOk result (Becomes self.old.meta self.new.meta) }
         ensures number { IfOk result (λ n. n ≡ length self.old.meta.series) }
         ensures few { IfOk result (λ n. n < 2 ^ 32 - 1) }
         ensures room { OnOk result (16 + size_of (with_series self.old.meta name.now) ≤ 4096 * self.old.meta.limits.slot) }

@@ -2,6 +2,7 @@
 ghost use Rattle.std.specs.Prelude.{◌≡◌, ◌+◌, ◌-◌, ◌<◌, ◌≤◌, ◌^◌, ℕ, List, true, OnOk};
 ghost use Rattle.ak_host.specs.Moments.{DiskPasses};
 ghost use Rattle.ak_meta.specs.Contents.{names_of};
+ghost use Rattle.ak_tree.specs.Later.{Becomes};
 ghost use Rattle.ak_tree.specs.Standing.{Holds, IsReady};
 ghost use Rattle.ak_tree.specs.Stops.{HasTreeStops, OnWorn, IsWornBy};
 ghost use Rattle.ak_tree.specs.Storing.{IsStored, LeavesView, LeavesSaved};
@@ -79,6 +80,7 @@ impl Forest {
         ensures ready { OnOk result (IsReady D.tells self.new (D.state disk.new)) }
         ensures names { names_of self.new.meta.series ≡ names_of self.old.meta.series }
         ensures limits { self.new.meta.limits ≡ self.old.meta.limits }
+        ensures becomes { OnOk result (Becomes self.old.meta self.new.meta) }
         ensures same { OnOk result (self.new ≡ record self.old { check = self.new.check; since = 0 }) }
         ensures reads { D.tells → (D.state disk.new).reads ≡ (D.state disk.old).reads }
         ensures worn { D.tells → (w : World) → Holds w self.old (D.state disk.old) → OnWorn result (IsWornBy (after_view w)) }

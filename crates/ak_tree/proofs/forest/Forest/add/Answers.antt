@@ -1,4 +1,4 @@
-use Rattle.std.proofs.Common.{◌≡◌, ◌∙◌, ℕ, ◌+◌, ◌-◌, ◌*◌, ◌^◌, ◌<◌, ◌≤◌, List, [], ◌∷◌, ◌++◌, length, Option, None, bytes_eq, false, sym, ap, subst, arith}
+use Rattle.std.proofs.Common.{◌≡◌, ◌∙◌, ℕ, ◌+◌, ◌*◌, ◌≤◌, List, [], ◌∷◌, ◌++◌, length, Option, None, bytes_eq, false, sym, ap, subst, arith}
 use Rattle.std.specs.List.{list_any}
 use Rattle.ak_meta.specs.Contents.{Content, size_of, names_of}
 use Rattle.ak_meta.specs.Leaves.{with_series}
@@ -7,6 +7,8 @@ use Rattle.ak_pool.specs.declared.pool.Frame.{Frame}
 use Rattle.ak_tree.specs.Standing.{Trees, trees, AreTrees, Keeps}
 use Rattle.ak_tree.proofs.AddingSeries.{size_named, with_named, trees_named, keeps_named}
 use Rattle.ak_world.specs.Puts.{with_name}
+use Rattle.ak_tree.specs.Later.{Becomes}
+use Rattle.ak_tree.proofs.Becoming.{becomes_named}
 use Rattle.ak_tree.proofs.forest.Forest.add.Goals as goal
 
 abbrev old : goal.After-unwrap → Trees
@@ -42,3 +44,8 @@ returns-in-Ok-clause-few c =
     let are : AreTrees (old c) = c.self.invariant in
     let number : c.in-Ok.number ≡ length c.self.inside.meta.series = c.in-Ok.ensures.number in
     omega (arith, many c.self.inside.meta.series, are.room, are.rules_are.limits_are.slot_most, number)
+
+pub returns-in-Ok-clause-becomes : goal.returns-in-Ok-clause-becomes
+returns-in-Ok-clause-becomes c =
+    let m : Content = c.self.inside.meta in
+    subst (λ (t : Trees). Becomes t.meta c.add.new.self) c.self.view_is (subst (Becomes m) (sym c.in-Ok.ensures.ok) (becomes_named m c.args.name.now))

@@ -13,6 +13,8 @@ use Rattle.ak_world.specs.Steps.{added}
 use Rattle.ak_tree.proofs.Appended.{begun, Below, IsFitted, not_fits, is_false, fit_accepted, fit_passes, extended_holds, extended_last, full_stays, full_leaves, full_fitted, none_fitted, fitted_worn, fitted_passes, fitted_is, viewed_passes}
 use Rattle.ak_tree.proofs.Closed.{framed_is, framed_none}
 use Rattle.ak_tree.proofs.Telling.{worn_from}
+use Rattle.ak_tree.specs.Later.{Becomes}
+use Rattle.ak_tree.proofs.Becoming.{becomes_it, becomes_on}
 use Rattle.ak_tree.proofs.forest.Forest.append.Goals.{in-Some+else-extend+in_ok-close_leaf, in_default}
 use Rattle.ak_tree.proofs.forest.Forest.append.Goals as goal
 
@@ -236,3 +238,20 @@ returns-clause-moments g c told w holds =
     let put = c.in_ok-begin.ensures.after told fitted.now fitted.holds in
     viewed_passes w n p c.match-index.self start mid fitted (g.D.Outside.state c.begin.new.disk) (g.D.Outside.state c.view_in_time-2.new.disk) put.keeps.not_worn (c.begin.ensures.moments told fitted.now fitted.holds)
     (c.view_in_time-2.ensures.moments told (begun fitted.now n p) put)
+
+pub returns-then-extend-clause-becomes : goal.returns-then-extend-clause-becomes
+returns-then-extend-clause-becomes g c =
+    let yes : IsTrue true = search rules in
+    on_ok_weaker c.view_in_time.result (λ viewed. becomes_on (becomes_it c.args.self.now.meta c.extend.new.self.meta (ap (λ (t : Trees). t.meta) (c.if-extend.ensures.put yes))) viewed)
+    c.view_in_time.ensures.becomes
+
+pub returns-clause-becomes : goal.returns-clause-becomes
+returns-clause-becomes g c =
+    let m = c.args.self.now.meta in
+    let fitted : Becomes m c.match-index.self.meta = elim c.match-index.branch [
+      | in-Some+else-extend+in_ok-close_leaf b ↦
+          let kept = becomes_it m b.extend.new.self.meta (ap (λ (t : Trees). t.meta) (b.extend.ensures.full (is_false b.extend.result b.if-extend.false))) in
+          rw b.self-is (becomes_on kept b.in_ok-close_leaf.ensures.becomes)
+      | in_default b ↦ becomes_it m c.match-index.self.meta (ap (λ (t : Trees). t.meta) b.self-is)
+    ] in
+    on_ok_weaker c.view_in_time-2.result (λ viewed. becomes_on (becomes_on fitted c.in_ok-begin.ensures.becomes) viewed) c.view_in_time-2.ensures.becomes

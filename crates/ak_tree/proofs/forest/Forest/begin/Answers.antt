@@ -8,6 +8,7 @@ use Rattle.ak_world.specs.Worlds.{World}
 use Rattle.ak_tree.proofs.Appended.{Below, not_free, one_free, begun_free, full_begun, full_worn, full_passes, started_holds, started_below}
 use Rattle.ak_tree.proofs.Closed.{same_number}
 use Rattle.ak_tree.proofs.Telling.{worn_from}
+use Rattle.ak_tree.proofs.Becoming.{becomes_it, becomes_on}
 use Rattle.ak_tree.proofs.forest.Forest.begin.Goals as goal
 
 pub returns-then-start-clause-after : goal.returns-then-start-clause-after
@@ -85,3 +86,20 @@ returns-clause-moments g c told w holds =
     let full = not_free (length f.pool.used) f.pool.count c.if-start.ensures.room.1 in
     let here = subst (λ (t : Trees). Holds w t (g.D.Outside.state c.args.disk.now)) (sym (c.if-start.ensures.full no)) holds in
     full_passes w f c.args.series c.args.p (g.D.Outside.state c.args.disk.now) (g.D.Outside.state c.close_oldest.new.disk) are holds.keeps c.requires.known c.requires.none full (c.close_oldest.ensures.moments told w here)
+
+pub returns-then-start-clause-becomes : goal.returns-then-start-clause-becomes
+returns-then-start-clause-becomes g c =
+    let yes : IsTrue true = search rules in
+    becomes_it _ _ (ap (λ (t : Trees). t.meta) (c.if-start.ensures.started yes).1)
+
+pub returns-clause-becomes : goal.returns-clause-becomes
+returns-clause-becomes g c =
+    let f = c.args.self.now in
+    let now = c.close_oldest.new.self in
+    let no : IsFalse false = search rules in
+    let same = c.if-start.ensures.full no in
+    let are : AreTrees f = subst AreTrees c.self.view_is c.self.invariant in
+    let is : AreTrees now = subst AreTrees c.self-2.view_is c.self-2.invariant in
+    let free = one_free f now are is (c.close_oldest.ensures.limits ∙ ap (λ (t : Trees). t.meta.limits) same) (c.in_ok-close_oldest.ensures.fewer ∙ ap (λ (t : Trees). length t.pool.used) same) in
+    let closing = becomes_on (becomes_it f.meta c.start.new.self.meta (ap (λ (t : Trees). t.meta) same)) c.in_ok-close_oldest.ensures.becomes in
+    becomes_on closing (becomes_it now.meta c.start-2.new.self.meta (ap (λ (t : Trees). t.meta) (c.start-2.ensures.started (c.start-2.ensures.room.1 free)).1))

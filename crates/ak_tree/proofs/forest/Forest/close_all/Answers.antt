@@ -1,4 +1,4 @@
-use Rattle.std.proofs.Common.{◌<◌, ◌∙◌, length, get_or, None, ap, subst, sym, arith}
+use Rattle.std.proofs.Common.{◌<◌, ◌∙◌, length, get_or, None, ap, subst, sym, arith, rules}
 use Rattle.ak_host.proofs.Passing.{disk_goes_on}
 use Rattle.ak_meta.specs.Contents.{Content}
 use Rattle.ak_tree.specs.Standing.{Trees, AreTrees}
@@ -6,6 +6,7 @@ use Rattle.ak_tree.proofs.Closed.{within_world, within_frames, same_number, open
 use Rattle.ak_tree.proofs.Joining.{way_closed, way_none, way_worn, way_passes, way_ends}
 use Rattle.ak_tree.proofs.Framing.{length_known}
 use Rattle.ak_tree.proofs.Telling.{worn_from}
+use Rattle.ak_tree.proofs.Becoming.{becomes_same, becomes_on}
 use Rattle.ak_tree.proofs.forest.Forest.close_all.Goals.{then-is_some+in_ok-close_leaf, else-is_some}
 use Rattle.ak_tree.proofs.forest.Forest.close_all.Goals as goal
 
@@ -57,6 +58,7 @@ loop-series-preserved g c =
             ready = b.in_ok-close_leaf.ensures.ready;
             names = b.close_leaf.ensures.names ∙ before.names;
             limits = b.close_leaf.ensures.limits ∙ before.limits;
+            becomes = becomes_on before.becomes b.in_ok-close_leaf.ensures.becomes;
             none = λ n below. ap (λ l. get_or l n None) b.in_ok-close_leaf.ensures.frames ∙ none_before now.frames i n number before.none below;
             reads = λ told. b.close_leaf.ensures.reads told ∙ before.reads told;
             way = λ told w holds.
@@ -78,6 +80,7 @@ loop-series-preserved g c =
             ready = before.ready;
             names = before.names;
             limits = before.limits;
+            becomes = before.becomes;
             none = λ n below. none_next now.frames i n none before.none below;
             reads = before.reads;
             way = λ told w holds.
@@ -103,3 +106,6 @@ returns-clause-after g c told w holds =
     let length_is = ap (λ (m : Content). length m.series) holds.keeps.content_is in
     way_ends w c.loop-series.series c.loop-series.self (g.D.Outside.state c.loop-series.disk) way
     (omega (arith, c.loop-series-test.false, ap length c.series.ensures, ap (λ (t : Trees). length t.meta.series) c.self.view_is, length_is, length_known w.opened.content.series w.series))
+
+pub loop-series-init : goal.loop-series-init
+loop-series-init g c = search (rules, becomes_same)

@@ -1,6 +1,7 @@
 use Rattle.std.proofs.Common.{◌≡◌, ◌<◌, ◌≤◌, ℕ, length, get_or, None}
 use Rattle.ak_host.specs.Moments.{DiskPasses}
 use Rattle.ak_meta.specs.Contents.{names_of}
+use Rattle.ak_tree.specs.Later.{Becomes}
 use Rattle.ak_tree.specs.Standing.{Holds, IsReady}
 use Rattle.ak_tree.specs.Storing.{LeavesView}
 use Rattle.ak_world.specs.Steps.{closed_from}
@@ -16,6 +17,7 @@ invariant-loop-series g l = record {
   ready : IsReady g.D.Outside.tells l.self (g.D.Outside.state l.disk);
   names : names_of l.self.meta.series ≡ names_of l.fn.self.meta.series;
   limits : l.self.meta.limits ≡ l.fn.self.meta.limits;
+  becomes : Becomes l.fn.self.meta l.self.meta;
   none : (n : ℕ) → n < l.series → get_or l.self.frames n None ≡ None;
   reads : g.D.Outside.tells → (g.D.Outside.state l.disk).reads ≡ (g.D.Outside.state l.fn.disk).reads;
   way : g.D.Outside.tells → (w : World) → Holds w l.fn.self (g.D.Outside.state l.fn.disk) → IsOnWay w l.series l.self (g.D.Outside.state l.disk);

@@ -7,6 +7,8 @@ use Rattle.ak_tree.specs.Standing.{Trees, AreTrees, last_known}
 use Rattle.ak_volumes.specs.Ordinals.{newest_fill}
 use Rattle.ak_tree.proofs.Closed.{known_few, others_of, framed_is, group_is, closed_worn, closed_early, closed_passes, closed_holds, fits_outside, ready_same, names_closed, fewer_used, last_closed}
 use Rattle.ak_tree.proofs.Telling.{worn_from}
+use Rattle.ak_tree.specs.Later.{Becomes}
+use Rattle.ak_tree.proofs.Becoming.{becomes_on, becomes_filled, becomes_closed}
 use Rattle.ak_tree.proofs.forest.Forest.close_leaf.Goals as goal
 
 pub carry-others-requires : goal.carry-others-requires
@@ -131,3 +133,9 @@ returns-clause-moments g c told w holds =
     closed_passes w f room n others c.newest_file-file.result c.n-index.result c.in-Some.frame (g.D.Outside.state c.args.disk.now) (g.D.Outside.state c.make_place.new.disk) holds are (ap (λ (t : Trees). t.meta.series) same)
     c.requires.known (ap (λ (t : Trees). get_or t.frames n None) same ∙ framed) others_is c.newest_file-file.ensures index_is c.in_ok-make_place.ensures.room (c.in_ok-make_place.ensures.after told w holds)
     (g.D.Outside.state c.write_group.new.disk) (c.make_place.ensures.moments told w holds) (c.write_group.ensures.moments told)
+
+pub returns-clause-becomes : goal.returns-clause-becomes
+returns-clause-becomes g c =
+    let m : Content = c.make_place.new.self.meta in
+    let more = becomes_on (becomes_filled m (1 + c.carry-others.result)) (becomes_closed _ c.args.series _ _) in
+    becomes_on c.in_ok-make_place.ensures.becomes (subst (Becomes m) (sym c.enter.ensures.meta) more)

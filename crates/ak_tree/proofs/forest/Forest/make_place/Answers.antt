@@ -6,6 +6,9 @@ use Rattle.ak_tree.specs.Storing.{LeavesView}
 use Rattle.ak_volumes.specs.Ordinals.{Ordinals, newest_fill}
 use Rattle.ak_world.specs.Worlds.{World}
 use Rattle.ak_tree.proofs.Joining.{room_switch}
+use Rattle.std.proofs.lemmas.Result.{on_ok_weaker}
+use Rattle.ak_tree.specs.Later.{Becomes}
+use Rattle.ak_tree.proofs.Becoming.{becomes_same, becomes_switched}
 use Rattle.ak_tree.proofs.forest.Forest.make_place.Goals as goal
 
 pub returns-in-Switch-clause-moments : goal.returns-in-Switch-clause-moments
@@ -13,3 +16,11 @@ returns-in-Switch-clause-moments g c told w holds =
     let same = c.volumes.ensures ∙ ap (λ (f : Trees). f.meta.ordinals) c.self.view_is ∙ ap (λ (m : Content). m.ordinals) holds.keeps.content_is in
     let over : w.ordinals.blocks < newest_fill w.ordinals + c.args.blocks = subst (λ (o : Ordinals). o.blocks < newest_fill o + c.args.blocks) same c.in-Switch.ensures.0 in
     subst (λ (v : World). DiskPasses (LeavesView w v) (g.D.Outside.state c.args.disk.now) (g.D.Outside.state c.switch.new.disk)) (sym (room_switch w c.args.blocks over)) (c.switch.ensures.moments told w holds)
+
+pub returns-in-Here-clause-becomes : goal.returns-in-Here-clause-becomes
+returns-in-Here-clause-becomes g c = becomes_same c.args.self.now.meta
+
+pub returns-in-Switch-clause-becomes : goal.returns-in-Switch-clause-becomes
+returns-in-Switch-clause-becomes g c =
+    let m = c.args.self.now.meta in
+    on_ok_weaker c.switch.result (λ same. subst (λ (t : Trees). Becomes m t.meta) (sym same) (becomes_switched m)) c.switch.ensures.same

@@ -1,4 +1,4 @@
-use Rattle.std.proofs.Common.{inl, inr, ◌-◌, ◌^◌, ◌≤◌, arith, sym, subst}
+use Rattle.std.proofs.Common.{ap, inl, inr, ◌-◌, ◌^◌, ◌≤◌, arith, sym, subst}
 use Rattle.std.proofs.lemmas.Bool.{cases_lt}
 use Rattle.ak_host.specs.Moments.{DiskPasses}
 use Rattle.ak_host.proofs.Passing.{disk_starts}
@@ -8,6 +8,8 @@ use Rattle.ak_volumes.specs.Ordinals.{newest, file_of}
 use Rattle.ak_world.specs.Worlds.{after_view}
 use Rattle.ak_tree.proofs.Saved.{newest_among, view_holds, view_leaves, view_told}
 use Rattle.ak_tree.proofs.Telling.{worn_weaker}
+use Rattle.std.proofs.lemmas.Result.{on_ok_weaker}
+use Rattle.ak_tree.proofs.Becoming.{becomes_it}
 use Rattle.ak_tree.proofs.forest.Forest.view.Goals as goal
 
 pub save-requires-clause-among : goal.save-requires-clause-among
@@ -30,3 +32,6 @@ returns-clause-moments g c told w holds =
       | inl below ↦ view_leaves w c.args.self.now c.newest_file-file.result old (g.D.Outside.state c.save.new.disk) holds c.newest_file-file.ensures below (c.save.ensures.moments told)
       | inr last ↦ subst (λ d. DiskPasses (LeavesView w (after_view w)) old (g.D.Outside.state d)) (sym (c.save.ensures.last last)) (disk_starts (LeavesView w (after_view w)) old)
     ]
+
+pub returns-clause-becomes : goal.returns-clause-becomes
+returns-clause-becomes g c = on_ok_weaker c.save.result (λ same. becomes_it _ _ (ap (λ (t : Trees). t.meta) same)) c.save.ensures.same
