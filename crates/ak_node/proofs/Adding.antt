@@ -20,6 +20,8 @@ use Rattle.ak_node.proofs.Naming.{with_one, with_title, known_at, new_at, conten
 use Rattle.ak_node.proofs.Late.{Below, not_late, late_none, both_none}
 use Rattle.ak_node.proofs.Looking.{knows, size_one, rest_at}
 use Rattle.ak_pool.specs.declared.pool.Frame.{Frame}
+use Rattle.ak_tree.specs.Later.{Becomes}
+use Rattle.ak_tree.proofs.Becoming.{becomes_same, becomes_on, becomes_named}
 use Rattle.ak_tree.specs.Standing.{Trees, trees, AreTrees, IsReady, Keeps, Holds, leaf_in, last_of_series, last_behind, last_known}
 use Rattle.ak_tree.proofs.AddingSeries.{size_named}
 use Rattle.ak_volumes.specs.Ordinals.{Ordinals}
@@ -359,3 +361,15 @@ late_added f new known now more (name ∷ names) ts are known_are now_is stays l
     ap₂ first_of
     (late_none (last_in_place new (place_in now name)) ts (here_below f new known now more name ts are known_are now_is stays (not_late (last_in_place f (place_in known name)) ts both.0)))
     (late_added f new known now more names ts are known_are now_is stays both.1)
+
+-- ---- What a record becomes with names
+
+maybe_with : (c : Content) (name : List ℕ) (known : Bool) → Becomes c (if known then c else with_series c name)
+maybe_with c name true = becomes_same c
+maybe_with c name false = becomes_named c name
+
+pub becomes_all : (names : List (List ℕ)) (c : Content) → Becomes c (with_all c names)
+becomes_all [] c = becomes_same c
+becomes_all (name ∷ names) c =
+    let one = maybe_with c name (list_any (λ n. bytes_eq name n) (names_of c.series)) in
+    becomes_on one (becomes_all names (if list_any (λ n. bytes_eq name n) (names_of c.series) then c else with_series c name))

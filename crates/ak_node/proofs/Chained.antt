@@ -17,7 +17,6 @@ use Rattle.ak_leaf.specs.Leaf.{SpellsLeaf}
 use Rattle.ak_meta.specs.Contents.{Content, rescue_at}
 use Rattle.ak_meta.specs.Leaves.{address_at, leaves_at}
 use Rattle.ak_meta.specs.declared.meta.SeriesMeta.{SeriesMeta}
-use Rattle.ak_node.specs.Damage.{IsDamagedLeaf}
 use Rattle.ak_node.specs.Walks.{IsAt, IsWalk, IsWhole, AreWalked, IsBroken, IsWholeIn, IsBrokenIn}
 use Rattle.ak_tree.specs.Standing.{Trees, Holds}
 use Rattle.ak_volumes.specs.Ordinals.{Ordinals, AreOrdinals, IsLive}
@@ -316,19 +315,6 @@ pub never_broken : (w : World) (f : Trees) (host : HostState) (n file block : �
 never_broken w f host n file block holds within broken =
     let s = at_some w.series n (omega (arith, within, as_many w f holds.keeps.content_is)) in
     not_broken (kept_at w f host n s.0 holds s.1).alive broken
-
--- what a walk breaks at is damaged
-pub damaged_of : (c : Content) (files : Files) (n file block : ℕ) → IsBrokenIn c files n file block → IsDamagedLeaf c file block files
-damaged_of c files n file block broken = record {
-  series = n;
-  number = broken.number;
-  at = broken.at;
-  live = broken.live;
-  named = record { behind = broken.behind; numbers = broken.walk.numbers; count = broken.walk.count_is; links = broken.walk.links };
-  file_is = broken.file_is;
-  block_is = broken.block_is;
-  none = broken.none;
-}
 
 -- the name of a series in the record is its own
 pub named_at : (w : World) (f : Trees) (host : HostState) (n : ℕ) (s : Series) (t : SeriesMeta) → Holds w f host → IsAt w.series n s → n < length f.meta.series → t ≡ get_or f.meta.series n t → t.name ≡ s.name

@@ -37,7 +37,7 @@ use Rattle.ak_image.proofs.Standing.{one_record, newest_same, sound_laid, laid_i
 use Rattle.ak_checkpoint.specs.Making.{AreEmpty, IsMade}
 use Rattle.ak_meta.proofs.Lawful.{first_lawful}
 use Rattle.ak_meta.specs.Leaves.{first_content}
-use Rattle.ak_node.specs.Opening.{IsFirst, KeepsOpened}
+use Rattle.ak_node.specs.Opening.{IsFirst, IsFoundRecord, KeepsOpened}
 use Rattle.ak_meta.specs.Contents.{Content, IsMeta, names_of}
 use Rattle.ak_meta.specs.declared.meta.SeriesMeta.{SeriesMeta}
 use Rattle.ak_record.specs.Records.{frame_for, HasNewest, Rests}
@@ -222,6 +222,21 @@ found_view view files slot number meta stands rules slot_is blocks newest_is =
     } in
     let one = one_record files view.number number view.content meta stands.rules_are rules stands.newest (subst (λ (k : ℕ). HasNewest k (Some (frame_for number meta)) files) (sym slot_is) has) in
     record { number_is = one.number; content_is = one.content }
+
+pub found_is : (slot number : ℕ) (meta : Content) (files : Files) → IsMeta meta → meta.limits.slot ≡ slot → length (file_at files 0) ≡ 2 + 2 * slot → newest slot files ≡ Some (frame_for number meta) → IsFoundRecord number meta files
+found_is slot number meta files rules slot_is blocks newest_is = record {
+  rules_are = rules;
+  blocks = omega (arith, blocks, slot_is);
+  newest_is = ap (λ (k : ℕ). newest k files) slot_is ∙ newest_is;
+}
+
+-- a node that is over what was found
+pub node_found : (number : ℕ) (meta : Content) (check : Saving) (keeper : Keeper) (node : Node) (files : Files) → node.keeper ≡ keeper → KeepsOpened meta check keeper → check.number ≡ number
+    → IsFoundRecord number meta files → IsFoundRecord node.keeper.forest.check.number node.keeper.forest.meta files
+node_found number meta check keeper node files is o numbered found =
+    let here : IsFoundRecord keeper.forest.check.number keeper.forest.meta files =
+    subst (λ (m : Content). IsFoundRecord keeper.forest.check.number m files) (sym o.meta_is) (subst (λ (n : ℕ). IsFoundRecord n meta files) (sym (ap (λ (s : Saving). s.number) o.check_is ∙ numbered)) found) in
+    subst (λ (k : Keeper). IsFoundRecord k.forest.check.number k.forest.meta files) (sym is) here
 
 -- the files that are synced are as they read, whatever a stop leaves
 pub found_holds : (view : View) (number : ℕ) (meta : Content) (check : Saving) (keeper : Keeper) (host : HostState) → IsFoundView view number meta → check.number ≡ number

@@ -16,6 +16,7 @@ use Rattle.ak_node.specs.Damage.{IsDamagedLeaf}
 use Rattle.ak_node.specs.Reads.{OnlyReads, IsReadStop}
 use Rattle.ak_node.specs.Standing.{IsReady, Holds}
 use Rattle.ak_node.specs.declared.keeper.Keeper.{Keeper}
+use Rattle.ak_tree.proofs.Becoming.{becomes_same}
 use Rattle.ak_tree.specs.Standing.{Trees, IsReady as IsForestReady, Holds as ForestHolds}
 use Rattle.ak_tree.specs.Stops.{OnWorn}
 use Rattle.ak_tree.specs.Storing.{IsLeftOf, IsStored}
@@ -86,7 +87,7 @@ stops_by : {T : Type 0} (told : Type 0) (c : Content) (old new : HostState) (res
 stops_by told c old new (Ok v) reads is = tt
 stops_by told c old new (Err Memory) reads is = tt
 stops_by told c old new (Err Disk) reads is = is
-stops_by told c old new (Err (Damaged file block)) reads is = λ tells. subst (λ (files : Files). IsDamagedLeaf c file block files) (sym (reads.files tells)) (is tells)
+stops_by told c old new (Err (Damaged file block)) reads is = λ tells. (c, becomes_same c, subst (λ (files : Files). IsDamagedLeaf c file block files) (sym (reads.files tells)) (is tells))
 stops_by told c old new (Err (Worn ordinal fill number)) reads is = absurd is
 stops_by told c old new (Err Port) reads is = absurd is
 stops_by told c old new (Err Usage) reads is = absurd is

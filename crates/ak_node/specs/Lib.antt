@@ -1,6 +1,6 @@
-pub mod Damage
 pub mod Reads
 pub mod Walks
+pub mod Damage
 pub mod Calls
 pub mod Standing
 pub mod Pieces

@@ -12,6 +12,7 @@ ghost use Rattle.ak_node.specs.Calls.{HasStops, IsSilent, IsSoundStop, IsOutside
 ghost use Rattle.ak_node.specs.Pieces.{InAnswer, LeavesInAnswer};
 ghost use Rattle.ak_node.specs.Queries.{IsNoRows};
 ghost use Rattle.ak_node.specs.Standing.{IsReady, Holds};
+ghost use Rattle.ak_tree.specs.Later.{Becomes};
 ghost use Rattle.ak_tree.specs.Stops.{OnWorn, IsWornBy};
 ghost use Rattle.ak_world.specs.Worlds.{World as Store};
 
@@ -74,7 +75,8 @@ fn points<H: Host>(
     requires ready { IsReady H.tells keeper.old (H.state host.old) }
     requires alike { length values.now ≡ length names.now }
     requires canonical { AllByRecursion IsCanonical names.now }
-    ensures stops { HasStops H.tells keeper.new.forest.meta (H.state host.old) (H.state host.new) result }
+    ensures stops { HasStops H.tells keeper.old.forest.meta (H.state host.old) (H.state host.new) result }
+    ensures becomes { OnOk result (Becomes keeper.old.forest.meta keeper.new.forest.meta) }
     ensures silent { H.tells → 1 ≤ port → IsSilent (H.state host.old) (H.state host.new) }
     ensures sound { IfErr result IsSoundStop }
     ensures ready { OnOk result (IsReady H.tells keeper.new (H.state host.new)) }
@@ -104,7 +106,8 @@ fn rows<H: Host>(
     metric: &[u8],
 ) -> Result<(), Stop>
     requires ready { IsReady H.tells keeper.old (H.state host.old) }
-    ensures stops { HasStops H.tells keeper.new.forest.meta (H.state host.old) (H.state host.new) result }
+    ensures stops { HasStops H.tells keeper.old.forest.meta (H.state host.old) (H.state host.new) result }
+    ensures becomes { OnOk result (Becomes keeper.old.forest.meta keeper.new.forest.meta) }
     ensures silent { H.tells → 1 ≤ port → IsSilent (H.state host.old) (H.state host.new) }
     ensures not_worn { OnWorn result (λ stop. ⊥) }
     ensures sound { H.tells → (content : Store) → Holds content keeper.old (H.state host.old) → IfErr result IsSoundStop }
@@ -129,7 +132,8 @@ fn rows<H: Host>(
 /// Closes all open leaves, takes a view, and confirms it.
 fn flush<H: Host>(alloc: Global, host: &mut H, keeper: &mut Keeper, port: u32) -> Result<(), Stop>
     requires ready { IsReady H.tells keeper.old (H.state host.old) }
-    ensures stops { HasStops H.tells keeper.new.forest.meta (H.state host.old) (H.state host.new) result }
+    ensures stops { HasStops H.tells keeper.old.forest.meta (H.state host.old) (H.state host.new) result }
+    ensures becomes { OnOk result (Becomes keeper.old.forest.meta keeper.new.forest.meta) }
     ensures silent { H.tells → 1 ≤ port → IsSilent (H.state host.old) (H.state host.new) }
     ensures sound { IfErr result IsSoundStop }
     ensures reads { H.tells → (H.state host.new).reads ≡ (H.state host.old).reads }
@@ -157,7 +161,8 @@ pub fn answer<H: Host>(
 ) -> Result<(), Stop>
     requires ready { IsReady H.tells keeper.old (H.state host.old) }
     requires allowed { IsAllowed asked }
-    ensures stops { HasStops H.tells keeper.new.forest.meta (H.state host.old) (H.state host.new) result }
+    ensures stops { HasStops H.tells keeper.old.forest.meta (H.state host.old) (H.state host.new) result }
+    ensures becomes { OnOk result (Becomes keeper.old.forest.meta keeper.new.forest.meta) }
     ensures silent { H.tells → 1 ≤ port → IsSilent (H.state host.old) (H.state host.new) }
     ensures sound { H.tells → (content : Store) → Holds content keeper.old (H.state host.old) → IfErr result IsSoundStop }
     ensures reads { H.tells → IsNoRows asked → (H.state host.new).reads ≡ (H.state host.old).reads }

@@ -10,6 +10,7 @@ ghost use Rattle.ak_meta.specs.Contents.{Content};
 ghost use Rattle.ak_node.specs.Calls.{HasStops, IsSilent, IsSoundStop, IsOutside};
 ghost use Rattle.ak_node.specs.Queries.{HasNoQueries, OnTurn};
 ghost use Rattle.ak_node.specs.Standing.{CanServe, Stands, HasRead, AreSessions, place_of, InAct, LeavesInAct, AfterAct, Wears, InEnd, AfterEnd, InEnds, AfterEnds, InTurn, LeavesInTurn, LeavesLast, AfterTaken, AfterTurn, WearsIn, went_after};
+ghost use Rattle.ak_tree.specs.Later.{Becomes};
 ghost use Rattle.ak_tree.specs.Stops.{OnWorn};
 
 use crate::answers::refuse;
@@ -135,7 +136,8 @@ impl Node {
         requires port { 1 ≤ port }
         requires ready { CanServe H.tells self.old (H.state host.old) }
         ensures stop { self.new.stop ≡ self.old.stop }
-        ensures stops { HasStops H.tells self.new.keeper.forest.meta (H.state host.old) (H.state host.new) result }
+        ensures stops { HasStops H.tells self.old.keeper.forest.meta (H.state host.old) (H.state host.new) result }
+        ensures becomes { OnOk result (Becomes self.old.keeper.forest.meta self.new.keeper.forest.meta) }
         ensures silent { H.tells → IsSilent (H.state host.old) (H.state host.new) }
         ensures sound { H.tells → (world : World) → Stands self.old world (H.state host.old) → IfErr result IsSoundStop }
         ensures reads { H.tells → (world : World) → Stands self.old world (H.state host.old) → HasNoQueries world (piece port bytes.now)
@@ -183,7 +185,8 @@ impl Node {
     fn finish_all<H: Host>(&mut self, alloc: Global, host: &mut H) -> Result<(), Stop>
         requires ready { CanServe H.tells self.old (H.state host.old) }
         ensures stop { self.new.stop ≡ self.old.stop }
-        ensures stops { HasStops H.tells self.new.keeper.forest.meta (H.state host.old) (H.state host.new) result }
+        ensures stops { HasStops H.tells self.old.keeper.forest.meta (H.state host.old) (H.state host.new) result }
+        ensures becomes { OnOk result (Becomes self.old.keeper.forest.meta self.new.keeper.forest.meta) }
         ensures silent { H.tells → IsSilent (H.state host.old) (H.state host.new) }
         ensures sound { IfErr result IsSoundStop }
         ensures reads { H.tells → (H.state host.new).reads ≡ (H.state host.old).reads }
@@ -211,7 +214,8 @@ impl Node {
         requires turn { IsTurn turn }
         requires ready { CanServe H.tells self.old (H.state host.old) }
         ensures stop { self.new.stop ≡ self.old.stop }
-        ensures stops { HasStops H.tells self.new.keeper.forest.meta (H.state host.old) (H.state host.new) result }
+        ensures stops { HasStops H.tells self.old.keeper.forest.meta (H.state host.old) (H.state host.new) result }
+        ensures becomes { OnOk result (Becomes self.old.keeper.forest.meta self.new.keeper.forest.meta) }
         ensures silent { H.tells → IsSilent (H.state host.old) (H.state host.new) }
         ensures sound { H.tells → (world : World) → Stands self.old world (H.state host.old) → IfErr result IsSoundStop }
         ensures reads { H.tells → (world : World) → Stands self.old world (H.state host.old) → HasNoQueries world (taken turn from.now)
@@ -253,7 +257,8 @@ impl Node {
         ensures kept { IfSome self.old.stop (λ stop. (result ≡ Err stop) × (self.new ≡ self.old) × (host.new ≡ host.old)) }
         ensures keeps { IfErr result (λ stop. self.new.stop ≡ Some stop) }
         ensures fresh { OnOk result (self.new.stop ≡ None) }
-        ensures stops { self.old.stop ≡ None → HasStops H.tells self.new.keeper.forest.meta (H.state host.old) (H.state host.new) result }
+        ensures stops { self.old.stop ≡ None → HasStops H.tells self.old.keeper.forest.meta (H.state host.old) (H.state host.new) result }
+        ensures becomes { OnOk result (Becomes self.old.keeper.forest.meta self.new.keeper.forest.meta) }
         ensures silent { H.tells → IsSilent (H.state host.old) (H.state host.new) }
         ensures went { IfOk result (λ went. went ≡ went_after turn) }
         ensures sound { H.tells → (world : World) → Stands self.old world (H.state host.old) → IfErr result IsSoundStop }
@@ -290,7 +295,8 @@ impl Node {
         ensures kept { IfSome self.old.stop (λ stop. (result ≡ Err stop) × (self.new ≡ self.old) × (host.new ≡ host.old)) }
         ensures keeps { IfErr result (λ stop. self.new.stop ≡ Some stop) }
         ensures fresh { OnOk result (self.new.stop ≡ None) }
-        ensures stops { self.old.stop ≡ None → HasStops H.tells self.new.keeper.forest.meta (H.state host.old) (H.state host.new) result }
+        ensures stops { self.old.stop ≡ None → HasStops H.tells self.old.keeper.forest.meta (H.state host.old) (H.state host.new) result }
+        ensures becomes { OnOk result (Becomes self.old.keeper.forest.meta self.new.keeper.forest.meta) }
         ensures silent { H.tells → IsSilent (H.state host.old) (H.state host.new) }
         ensures sound { H.tells → (world : World) → Stands self.old world (H.state host.old) → IfErr result IsSoundStop }
         // Puts and flushes read nothing.
@@ -330,7 +336,8 @@ impl Node {
         ensures kept { IfSome self.old.stop (λ stop. (result ≡ Err stop) × (self.new ≡ self.old) × (host.new ≡ host.old)) }
         ensures keeps { IfErr result (λ stop. self.new.stop ≡ Some stop) }
         ensures fresh { OnOk result (self.new.stop ≡ None) }
-        ensures stops { self.old.stop ≡ None → HasStops H.tells self.new.keeper.forest.meta (H.state host.old) (H.state host.new) result }
+        ensures stops { self.old.stop ≡ None → HasStops H.tells self.old.keeper.forest.meta (H.state host.old) (H.state host.new) result }
+        ensures becomes { OnOk result (Becomes self.old.keeper.forest.meta self.new.keeper.forest.meta) }
         ensures sound { self.old.stop ≡ None → IfErr result IsSoundStop }
         ensures silent { H.tells → IsSilent (H.state host.old) (H.state host.new) }
         ensures reads { H.tells → (H.state host.new).reads ≡ (H.state host.old).reads }

@@ -5,7 +5,7 @@ ghost use Rattle.ak_host.specs.Files.{Files};
 ghost use Rattle.ak_host.specs.Moments.{DiskPasses, LeavesNow};
 ghost use Rattle.ak_image.specs.Images.{IsSound, StandsFor};
 ghost use Rattle.ak_meta.specs.Contents.{IsMeta, names_of, size_of};
-ghost use Rattle.ak_node.specs.Opening.{IsFirst, KeepsOpened};
+ghost use Rattle.ak_node.specs.Opening.{IsFirst, IsFoundRecord, KeepsOpened};
 ghost use Rattle.ak_node.specs.Standing.{CanServe, Stands};
 ghost use Rattle.ak_record.specs.Stops.{IsNoStore, IsTaken, IsOpenStop, IsMakeStop};
 ghost use Rattle.ak_run.specs.Run.{world_of};
@@ -94,6 +94,7 @@ impl Node {
     pub fn open<D: Disk>(alloc: Global, disk: &mut D) -> Result<Node, Stop>
         ensures err { IfErr result (IsOpenStop D.tells (D.state disk.old) (D.state disk.new)) }
         ensures no_store { D.tells → IsNoStore (D.state disk.old).files → IfOk result (λ node. ⊥) }
+        ensures found { D.tells → IfOk result (λ node. IsFoundRecord node.keeper.forest.check.number node.keeper.forest.meta (D.state disk.old).files) }
         ensures fresh { IfOk result (λ node. node.stop ≡ None) }
         ensures ready { IfOk result (λ node. CanServe D.tells node (D.state disk.new)) }
         ensures stands { D.tells → (view : View) → IsSound (D.state disk.old).files → StandsFor view (D.state disk.old).files

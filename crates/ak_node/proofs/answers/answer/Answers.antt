@@ -10,6 +10,7 @@ use Rattle.ak_node.specs.Pieces.{InAnswer, LeavesInAnswer}
 use Rattle.ak_node.specs.Standing.{Holds}
 use Rattle.ak_node.proofs.Answering.{holds_asked, reply_part, refused_bytes}
 use Rattle.ak_node.proofs.Staying.{holds_after_ports, ready_after_ports, ok_is}
+use Rattle.ak_tree.proofs.Becoming.{becomes_same}
 use Rattle.ak_node.proofs.answers.answer.Goals as goal
 
 pub returns-in-Refused-clause-stops : goal.returns-in-Refused-clause-stops
@@ -32,3 +33,6 @@ returns-in-Refused-clause-moments g c told content holds =
     subst (λ (a : Asked). Passes (InAnswer c.args.port content a (mark_now old)) (LeavesInAnswer c.args.port content a (mark_now old)) old (g.H.Outside.state c.refuse.new.host)) (sym c.in-Refused.is)
     (reply_part c.args.port content (Refused c.in-Refused.refusal) holds.keeps.not_worn (disk_starts (LeavesView content content) old) (refusal_reply c.in-Refused.refusal)
     (refused_bytes c.args.port content c.in-Refused.refusal holds.keeps.not_worn) c.args.keeper.now holds (c.refuse.ensures.moments told))
+
+pub returns-in-Refused-clause-becomes : goal.returns-in-Refused-clause-becomes
+returns-in-Refused-clause-becomes g c = ok_is c.refuse.result (becomes_same c.args.keeper.now.forest.meta)

@@ -13,7 +13,7 @@ pub returns-in_err-flush-clause-moments : goal.returns-in_err-flush-clause-momen
 returns-in_err-flush-clause-moments g c told content holds = disk_part c.args.port content Flush holds.keeps.not_worn (c.flush.ensures.moments told content holds)
 
 pub returns-clause-stops : goal.returns-clause-stops
-returns-clause-stops g c = stops_on _ _ _ _ _ _ c.flush.result c.tell.result c.flush.ensures.stops (c.tell.ensures.stops _)
+returns-clause-stops g c = stops_on _ _ _ _ _ c.flush.result c.tell.result c.flush.ensures.stops (c.tell.ensures.stops _)
 
 pub returns-clause-ready : goal.returns-clause-ready
 returns-clause-ready g c =
@@ -36,3 +36,6 @@ pub returns-clause-moments : goal.returns-clause-moments
 returns-clause-moments g c told content holds =
     let next = c.in_ok-flush.ensures.after told content holds in
     reply_part c.args.port content Flush holds.keeps.not_worn (c.flush.ensures.moments told content holds) ok_reply (flush_bytes c.args.port content holds.keeps.not_worn next.keeps.not_worn) c.flush.new.self next (c.tell.ensures.moments told)
+
+pub returns-clause-becomes : goal.returns-clause-becomes
+returns-clause-becomes g c = ok_is c.tell.result c.in_ok-flush.ensures.becomes

@@ -11,7 +11,7 @@ use Rattle.ak_node.proofs.Stopping.{stops_on}
 use Rattle.ak_node.proofs.answers.points.Goals as goal
 
 pub returns-in-Some-clause-stops : goal.returns-in-Some-clause-stops
-returns-in-Some-clause-stops g c = stops_on _ _ _ _ _ _ c.put.result c.refuse.result c.put.ensures.stops (c.refuse.ensures.stops _)
+returns-in-Some-clause-stops g c = stops_on _ _ _ _ _ c.put.result c.refuse.result c.put.ensures.stops (c.refuse.ensures.stops _)
 
 pub returns-in-Some-clause-ready : goal.returns-in-Some-clause-ready
 returns-in-Some-clause-ready g c =
@@ -42,3 +42,6 @@ pub returns-in-None-clause-told : goal.returns-in-None-clause-told
 returns-in-None-clause-told g c told content holds =
     told_none c.args.port content (Points c.args.names.now c.args.time c.args.values.now) (c.put.ensures.moments told content holds)
     (points_bytes c.args.port content c.args.names.now c.args.time c.args.values.now None holds.keeps.not_worn (sym c.in-None.is ∙ c.in_ok-refusal.ensures.refusal content holds.keeps))
+
+pub returns-in-Some-clause-becomes : goal.returns-in-Some-clause-becomes
+returns-in-Some-clause-becomes g c = ok_is c.refuse.result c.in_ok-refusal.ensures.becomes

@@ -1,4 +1,4 @@
-use Rattle.std.proofs.Common.{rules, ◌≡◌, sym, ◌∙◌}
+use Rattle.std.proofs.Common.{rules, ◌≡◌, sym, ap, ◌∙◌}
 use Rattle.std.proofs.lemmas.Result.{on_ok_weaker}
 use Rattle.ak_host.specs.Moments.{mark_now}
 use Rattle.ak_host.proofs.Passing.{ports_leave}
@@ -7,6 +7,8 @@ use Rattle.ak_run.specs.Replies.{bulk_reply, rows_of}
 use Rattle.ak_node.proofs.Answering.{holds_asked, disk_part, told_asked, reply_part, rows_bytes, reads_leave}
 use Rattle.ak_node.proofs.Staying.{holds_after_ports, ready_after_ports, ok_is}
 use Rattle.ak_node.proofs.Stopping.{stops_on}
+use Rattle.ak_tree.proofs.Becoming.{becomes_it}
+use Rattle.ak_tree.specs.Standing.{Trees}
 use Rattle.ak_node.proofs.answers.rows.Goals as goal
 
 pub returns-in_err-write_metric-clause-moments : goal.returns-in_err-write_metric-clause-moments
@@ -15,7 +17,7 @@ returns-in_err-write_metric-clause-moments g c told content holds =
     disk_part c.args.port content (Rows c.args.metric.now) holds.keeps.not_worn (reads_leave content c.args.keeper.now old (g.H.Outside.state c.write_metric.new.disk) holds (c.write_metric.ensures.moments told))
 
 pub returns-in-Ok-clause-stops : goal.returns-in-Ok-clause-stops
-returns-in-Ok-clause-stops g c = stops_on _ _ _ _ _ _ c.write_metric.result c.tell.result c.write_metric.ensures.stops (c.tell.ensures.stops _)
+returns-in-Ok-clause-stops g c = stops_on _ _ _ _ _ c.write_metric.result c.tell.result c.write_metric.ensures.stops (c.tell.ensures.stops _)
 
 pub returns-in-Ok-clause-ready : goal.returns-in-Ok-clause-ready
 returns-in-Ok-clause-ready g c =
@@ -53,3 +55,6 @@ pub returns-clause-moments : goal.returns-clause-moments
 returns-clause-moments g c told content holds =
     let old = g.H.Outside.state c.args.host.now in
     disk_part c.args.port content (Rows c.args.metric.now) holds.keeps.not_worn (reads_leave content c.args.keeper.now old (g.H.Outside.state c.write_metric.new.disk) holds (c.write_metric.ensures.moments told))
+
+pub returns-in-Ok-clause-becomes : goal.returns-in-Ok-clause-becomes
+returns-in-Ok-clause-becomes g c = ok_is c.tell.result (becomes_it _ _ (ap (λ (t : Trees). t.meta) c.write_metric.ensures.forest))

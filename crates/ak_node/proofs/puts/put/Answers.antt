@@ -1,4 +1,5 @@
-use Rattle.std.proofs.Common.{◌∙◌, sym, ap, subst}
+use Rattle.std.proofs.Common.{◌≡◌, ◌∙◌, ℕ, Bool, false, List, Result, Ok, Err, OnOk, rules, sym, ap, subst}
+use Rattle.std.proofs.lemmas.Bool.{false≢true}
 use Rattle.std.specs.Option.{option_map}
 use Rattle.ak_base.specs.declared.refusal.Refusal.TheVariants.{Late}
 use Rattle.ak_node.proofs.Refusing.{full, fitting, kept, is_put, put_ready, put_places, put_late, put_holds, put_taken, put_passes}
@@ -7,6 +8,14 @@ use Rattle.ak_tree.specs.Stops.{IsWornBy}
 use Rattle.ak_tree.proofs.Telling.{worn_from}
 use Rattle.ak_world.specs.Puts.{named}
 use Rattle.ak_world.specs.Worlds.{World}
+use Rattle.std.specs.Result.{is_err}
+use Rattle.ak_tree.specs.Later.{Becomes}
+use Rattle.ak_node.specs.Names.{with_all}
+use Rattle.ak_node.specs.declared.keeper.Keeper.{Keeper}
+use Rattle.ak_node.proofs.Adding.{becomes_all}
+use Rattle.ak_node.proofs.Stopping.{stops_of}
+use Rattle.ak_tree.specs.Standing.{Trees}
+use Rattle.ak_tree.proofs.Becoming.{becomes_same, becomes_on}
 use Rattle.ak_node.proofs.puts.put.Goals as goal
 
 pub returns-then-need-room-clause-refusal : goal.returns-then-need-room-clause-refusal
@@ -92,3 +101,31 @@ returns-clause-moments g c told content holds =
     let all = put_taken c.args.keeper.now c.add_names.new.keeper c.args.names.now c.args.time c.look_at-need.result.places put content c.args.values.now c.look_at-need.result.need c.room-room.result holds.keeps c.look_at-need.ensures.need c.room-room.ensures.room c.if-need-room.false in
     let held = put_holds c.args.keeper.now c.add_names.new.keeper c.args.names.now c.args.time c.look_at-need.result.places put content (g.D.Outside.state c.args.disk.now) holds in
     put_passes content c.args.names.now _ _ (g.D.Outside.state c.args.disk.now) (g.D.Outside.state c.accept_all.new.disk) all (c.accept_all.ensures.moments told (named content c.args.names.now) held)
+
+added : {T E : Type 0} (r : Result T E) (is : Bool) (old new : Keeper) (names : List (List ℕ)) → is ≡ is_err r → is ≡ false
+    → OnOk r (new.forest ≡ record old.forest { meta = with_all old.forest.meta names; frames = new.forest.frames }) → Becomes old.forest.meta new.forest.meta
+added (Ok v) is old new names value good forest = subst (λ (t : Trees). Becomes old.forest.meta t.meta) (sym forest) (becomes_all names old.forest.meta)
+added (Err e) is old new names value good forest = absurd (false≢true (sym good ∙ value))
+
+pub returns-in_err-accept_all-clause-stops : goal.returns-in_err-accept_all-clause-stops
+returns-in_err-accept_all-clause-stops g c =
+    let named = added c.add_names.result c.is_err.result c.args.keeper.now c.add_names.new.keeper c.args.names.now c.is_err.ensures.value c.if-is_err.false c.add_names.ensures.forest in
+    let stops = stops_of _ _ _ _ _ _ named c.in_err-accept_all.ensures.stops in
+    search rules
+
+pub returns-clause-stops : goal.returns-clause-stops
+returns-clause-stops g c =
+    let named = added c.add_names.result c.is_err.result c.args.keeper.now c.add_names.new.keeper c.args.names.now c.is_err.ensures.value c.if-is_err.false c.add_names.ensures.forest in
+    let stops = stops_of _ _ _ _ _ _ named c.in_ok-accept_all.ensures.stops in
+    search rules
+
+pub returns-clause-becomes : goal.returns-clause-becomes
+returns-clause-becomes g c =
+    let named = added c.add_names.result c.is_err.result c.args.keeper.now c.add_names.new.keeper c.args.names.now c.is_err.ensures.value c.if-is_err.false c.add_names.ensures.forest in
+    becomes_on named c.in_ok-accept_all.ensures.becomes
+
+pub returns-then-need-room-clause-becomes : goal.returns-then-need-room-clause-becomes
+returns-then-need-room-clause-becomes g c = becomes_same c.args.keeper.now.forest.meta
+
+pub returns-in-Some-clause-becomes : goal.returns-in-Some-clause-becomes
+returns-in-Some-clause-becomes g c = becomes_same c.args.keeper.now.forest.meta

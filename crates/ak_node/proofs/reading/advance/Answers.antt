@@ -4,6 +4,7 @@ use Rattle.ak_host.proofs.Passing.{ports_leave}
 use Rattle.ak_node.proofs.Staying.{by_moment, holds_after_ports, ready_after_ports}
 use Rattle.ak_node.proofs.Steps.{held, asked_of, asks_held, after_message, after_none, after_kept, after_fault, message_moment, message_leaves, message_wears, message_asks, fault_moment, fault_leaves}
 use Rattle.ak_node.proofs.Stopping.{worn_handed}
+use Rattle.ak_tree.proofs.Becoming.{becomes_same}
 use Rattle.ak_node.proofs.reading.advance.Goals as goal
 
 pub returns-in_err-act-in-Ok-Some-clause-worn : goal.returns-in_err-act-in-Ok-Some-clause-worn
@@ -105,3 +106,12 @@ returns-in_ok-refuse-in-Err-Refused-clause-last g c told begun at _ =
     let before = mark_now host in
     after_fault begun c.args.piece.now c.args.keeper.now c.args.session.now c.args.at.now c.feed.new.at before host at c.feed.new.self c.in-Err-Refused.refusal c.in-Err-Refused.field-0 c.in-Err-Refused.field-0-is c.in-Err-Refused.ensures.stands c.in-Err-Refused.ensures.fault c.if-session.false (mark_now (g.H.Outside.state c.refuse.new.host)) (g.H.Outside.state c.refuse.new.host) (c.in_ok-refuse-in-Err-Refused.ensures.told told)
     (holds_after_ports (held begun c.args.piece.now c.args.keeper.now c.args.session.now c.args.at.now c.feed.new.at before host at c.feed.new.self) c.args.keeper.now host (g.H.Outside.state c.refuse.new.host) at.holds (c.refuse.ensures.files told) (c.refuse.ensures.moments told))
+
+pub returns-in-Ok-None-clause-becomes : goal.returns-in-Ok-None-clause-becomes
+returns-in-Ok-None-clause-becomes g c = becomes_same c.args.keeper.now.forest.meta
+
+pub returns-then-session-clause-becomes : goal.returns-then-session-clause-becomes
+returns-then-session-clause-becomes g c = becomes_same c.args.keeper.now.forest.meta
+
+pub returns-in_ok-refuse-in-Err-Refused-clause-becomes : goal.returns-in_ok-refuse-in-Err-Refused-clause-becomes
+returns-in_ok-refuse-in-Err-Refused-clause-becomes g c = becomes_same c.args.keeper.now.forest.meta

@@ -1,12 +1,15 @@
-use Rattle.std.proofs.Common.{◌≡◌, ◌∙◌, ◌<◌, ◌++◌, List, length, take, ap, arith}
+use Rattle.std.proofs.Common.{◌≡◌, ◌∙◌, ℕ, ◌<◌, ◌++◌, List, length, take, ap, subst, arith}
 use Rattle.std.proofs.lemmas.List.{take_all}
 use Rattle.std.specs.List.{flat_map}
 use Rattle.ak_node.proofs.Chained.{at_some, as_many}
-use Rattle.ak_node.proofs.OnlyReading.{more_reads, stop_from}
+use Rattle.ak_node.proofs.OnlyReading.{more_reads, stop_from, reason_weaker}
 use Rattle.ak_node.proofs.RowsOf.{series_more}
-use Rattle.ak_node.proofs.StillReady.{holds_still}
+use Rattle.ak_node.proofs.StillReady.{holds_still, has_stops}
 use Rattle.ak_node.specs.Calls.{IsSoundStop}
+use Rattle.ak_node.specs.Damage.{IsDamagedLeaf}
+use Rattle.ak_node.specs.Reads.{IsReadStop}
 use Rattle.ak_run.specs.Replies.{series_rows}
+use Rattle.ak_host.specs.Files.{Files}
 use Rattle.ak_tree.specs.Standing.{Trees}
 use Rattle.ak_world.specs.Leaves.{Series}
 use Rattle.ak_world.specs.Worlds.{limits_of}
@@ -57,3 +60,18 @@ pub returns-clause-holds : goal.returns-clause-holds
 returns-clause-holds g c told content holds =
     let so_far = c.loop-series.invariant in
     holds_still content c.args.keeper.now c.loop-series.keeper (g.D.Outside.state c.args.disk.now) (g.D.Outside.state c.loop-series.disk) so_far.forest so_far.reads told holds
+
+pub returns-in_err-write_of-clause-stops : goal.returns-in_err-write_of-clause-stops
+returns-in_err-write_of-clause-stops g c =
+    let so_far = c.loop-series.invariant in
+    let tells = g.D.Outside.tells in
+    let old = g.D.Outside.state c.args.disk.now in
+    let mid = g.D.Outside.state c.loop-series.disk in
+    let new = g.D.Outside.state c.write_of.new.disk in
+    let f : Trees = c.args.keeper.now.forest in
+    let now : Trees = c.loop-series.keeper.forest in
+    let damaged : ℕ → ℕ → Type 0 = λ file block. tells → IsDamagedLeaf f.meta file block old.files in
+    let why = reason_weaker {P = λ file block. tells → IsDamagedLeaf now.meta file block mid.files} {Q = damaged} old mid new c.in_err-write_of.field-0.0 so_far.reads.later
+    (λ file block is told. subst (λ (t : Trees). IsDamagedLeaf t.meta file block old.files) so_far.forest (subst (λ (files : Files). IsDamagedLeaf now.meta file block files) (so_far.reads.files told) (is told)))
+    c.in_err-write_of.ensures.stops in
+    has_stops tells f.meta old new c.from_residual.result (more_reads so_far.reads c.write_of.ensures.reads) (stop_from (IsReadStop damaged old new) c.from_residual.result c.in_err-write_of.field-0.0 c.from_residual.ensures.1 why)

@@ -1,6 +1,6 @@
 use Rattle.std.proofs.Common.{◌≡◌, ◌++◌, sym, subst, arith}
 use Rattle.std.specs.List.{flat_map}
-use Rattle.ak_node.proofs.Chained.{kept_at, never_broken, damaged_of}
+use Rattle.ak_node.proofs.Chained.{kept_at, never_broken}
 use Rattle.ak_node.proofs.OnlyReading.{stop_from, reason_weaker, sound_read}
 use Rattle.ak_node.proofs.RowsOf.{series_written}
 use Rattle.ak_node.specs.Calls.{IsSoundStop}
@@ -16,7 +16,7 @@ returns-in_err-write_closed-clause-stops g c =
     let old = g.D.Outside.state c.args.disk.now in
     stop_from _ c.from_residual.result c.in_err-write_closed.field-0.0 c.from_residual.ensures.1
     (reason_weaker old old (g.D.Outside.state c.write_closed.new.disk) c.in_err-write_closed.field-0.0 (omega arith)
-    (λ file block broken told. damaged_of m old.files c.args.series file block (broken told)) c.in_err-write_closed.ensures.stops)
+    (λ file block broken told. (c.args.series, broken told)) c.in_err-write_closed.ensures.stops)
 
 pub returns-in_err-write_closed-clause-sound : goal.returns-in_err-write_closed-clause-sound
 returns-in_err-write_closed-clause-sound g c told content holds =

@@ -30,7 +30,7 @@ flush-requires g c =
     record { ready = ready_after_ports g.H.Outside.tells c.args.self.now.keeper (g.H.Outside.state c.args.host.now) (g.H.Outside.state c.tell_ends.new.host) c.requires.ready.ready (c.tell_ends.ensures.stops c.args.self.now.keeper.forest.meta).sizes c.tell_ends.ensures.files c.tell_ends.ensures.leaves }
 
 pub returns-clause-stops : goal.returns-clause-stops
-returns-clause-stops g c = stops_on _ _ _ _ _ _ _ c.flush.result (c.in_ok-tell_ends.ensures.stops c.args.self.now.keeper.forest.meta) c.flush.ensures.stops
+returns-clause-stops g c = stops_on _ _ _ _ _ _ c.flush.result (c.in_ok-tell_ends.ensures.stops c.args.self.now.keeper.forest.meta) c.flush.ensures.stops
 
 pub returns-clause-worn : goal.returns-clause-worn
 returns-clause-worn g c told world stands =

@@ -1,10 +1,10 @@
 use Rattle.std.proofs.Common.{◌∙◌, rules, length, refl, sym, ap, subst, arith, [], false}
 use Rattle.std.proofs.lemmas.Result.{err_from_is_err_and}
 use Rattle.ak_gate.specs.Slots.{newest}
-use Rattle.ak_host.specs.Files.{Files}
+use Rattle.ak_host.specs.Files.{Files, file_at}
 use Rattle.ak_host.proofs.Passing.{disk_goes_on, disk_now, stays_stable}
 use Rattle.ak_image.specs.Images.{IsSound, StandsFor}
-use Rattle.ak_node.proofs.Starting.{open_sound, opened_ready, node_serves, node_stands, found_view, found_holds, there_of, file_long}
+use Rattle.ak_node.proofs.Starting.{open_sound, opened_ready, node_serves, node_stands, found_view, found_holds, there_of, file_long, found_is, node_found}
 use Rattle.ak_node.proofs.node.Node.open.Goals as goal
 
 pub returns-in_err-opened-clause-sound : goal.returns-in_err-opened-clause-sound
@@ -46,3 +46,14 @@ pub returns-in-Ok-clause-moments : goal.returns-in-Ok-clause-moments
 returns-in-Ok-clause-moments g c told =
     let first = c.sync_all.ensures.moments told in
     disk_goes_on first (c.open_newest.ensures.moments told) (disk_now first (λ disk left. left))
+
+pub returns-in-Ok-clause-found : goal.returns-in-Ok-clause-found
+returns-in-Ok-clause-found g c told =
+    let o = c.in_ok-opened.opened in
+    let e = c.in_ok-opened.ensures in
+    let new = g.D.Outside.state c.open_newest.new.disk in
+    let first = c.sync_all.ensures.files told in
+    let same = c.open_newest.ensures.files told ∙ first in
+    let blocks = file_long new (g.met.D.Disk.sized told c.open_newest.new.disk) ∙ e.gate.0.sized.blocks in
+    node_found o.gate.number o.meta (record { gate = o.gate; pending = false; number = o.gate.number; bytes = []; file = 0 }) c.in-Ok.keeper c.over.result _ c.over.ensures.keeper c.in-Ok.ensures.opened refl
+    (found_is o.gate.slot o.gate.number o.meta (g.D.Outside.state c.args.disk.now).files e.rules e.gate.1 (ap (λ (f : Files). length (file_at f 0)) (sym same) ∙ blocks) (ap (λ (f : Files). newest o.gate.slot f) (sym first) ∙ e.newest told))

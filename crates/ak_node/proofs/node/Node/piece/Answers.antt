@@ -7,6 +7,7 @@ use Rattle.ak_host.proofs.Passing.{ports_leave}
 use Rattle.ak_run.specs.Replies.{refusal_reply}
 use Rattle.ak_node.proofs.Sessions.{session_of, session_later}
 use Rattle.ak_node.proofs.Staying.{by_moment, ok_is, holds_after_ports, ready_after_ports, left_last}
+use Rattle.ak_tree.proofs.Becoming.{becomes_same}
 use Rattle.ak_tree.proofs.Telling.{worn_weaker}
 use Rattle.ak_node.proofs.Turns.{begun_of, begun_reads, piece_in_act, piece_leaves_act, piece_after_act, piece_wears, other_after, other_moment, other_leaves_moment, many_gives}
 use Rattle.ak_node.proofs.node.Node.piece.Goals as goal
@@ -93,3 +94,6 @@ returns-in-Ok-None-clause-moments g c told world stands =
     by_moment (c.refuse.ensures.moments told)
     (λ mark m. other_moment world (piece c.args.port c.args.bytes.now) c.args.port (refusal_reply TooMany) c.requires.port gives (mark_now old) mark m)
     (λ mark disk m left. other_leaves_moment world (piece c.args.port c.args.bytes.now) c.args.port (refusal_reply TooMany) c.requires.port gives (mark_now old) mark disk m (left_last world.content c.args.self.now.keeper old stands.holds disk left))
+
+pub returns-in-Ok-None-clause-becomes : goal.returns-in-Ok-None-clause-becomes
+returns-in-Ok-None-clause-becomes g c = ok_is c.refuse.result (becomes_same c.args.self.now.keeper.forest.meta)
