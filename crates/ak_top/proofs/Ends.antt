@@ -306,8 +306,18 @@ end_later words told old mid new Usage cause disk port files line = cause
 end_later words told old mid new (Damaged file block) cause disk port files line = (cause.0, λ t. damaged t (cause.1 t))
   where
     damaged : told → IsRunDamage words old mid file block → IsRunDamage words old new file block
-    damaged t (inl before) = inl before
-    damaged t (inr leaf) = inr (leaf.0, subst (IsDamagedLeaf leaf.0 file block) (sym (files t)) leaf.1)
+    damaged t (run, inl before) = (run, inl before)
+    damaged t (run, inr leaf) = (
+      run,
+      inr (record {
+        number = leaf.number;
+        found = leaf.found;
+        newest = leaf.newest;
+        now = leaf.now;
+        becomes = leaf.becomes;
+        damaged = subst (IsDamagedLeaf leaf.now file block) (sym (files t)) leaf.damaged;
+      }),
+    )
 end_later words told old mid new Disk cause disk port files line = subst (Rose old.disk_faults) (sym disk) cause
 end_later words told old mid new Port cause disk port files line = omega (arith, cause, port)
 end_later words told old mid new Memory cause disk port files line = tt
@@ -383,6 +393,20 @@ serving s (inl (inr (inr (inl e)))) = subst Serving (sym e) tt
 serving s (inl (inr (inr (inr (inl e))))) = subst Serving (sym e) tt
 serving s (inl (inr (inr (inr (inr (ordinal, fill, number, e)))))) = subst Serving (sym e) tt
 serving s (inr e) = subst Serving (sym e) tt
+
+pub undamaged_failed : (s : Stop) (status : ℕ) → status ≡ status_of s → IsServingOrThere s → status ≢ 2
+undamaged_failed s status is served two = other s (serving s served) (sym is ∙ two)
+  where
+    other : (s : Stop) → Serving s → status_of s ≢ 2
+    other Usage none e = absurd none
+    other (Damaged file block) none e = absurd none
+    other Disk some e = omega (arith, e)
+    other Port some e = omega (arith, e)
+    other Memory some e = omega (arith, e)
+    other Budget some e = omega (arith, e)
+    other (Worn ordinal fill number) some e = omega (arith, e)
+    other NoStore none e = absurd none
+    other Exists some e = omega (arith, e)
 
 -- A call that stopped, and told its line.
 pub record Failed (words : List (List ℕ)) (told : Type 0) (view : View) (old mid new : HostState) (s : Stop) : Type 0 where

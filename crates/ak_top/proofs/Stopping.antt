@@ -7,14 +7,13 @@ use Rattle.ak_host.specs.Moments.{HostState, mark_now}
 use Rattle.ak_image.specs.Images.{IsSound, StandsFor}
 use Rattle.ak_meta.specs.Contents.{Content}
 use Rattle.ak_node.specs.Calls.{IsNodeStop, IsSoundStop}
-use Rattle.ak_node.specs.Damage.{IsDamagedLeaf}
-use Rattle.ak_record.specs.Stops.{IsDamaged}
+use Rattle.ak_node.specs.Opening.{IsFoundRecord}
 use Rattle.ak_tree.specs.Stops.{IsWornBy, OnWorn}
 use Rattle.ak_world.specs.Views.{View, first_view}
 use Rattle.ak_world.specs.Worlds.{World as Store}
 use Rattle.ak_top.specs.Calls.{IsServeStop, HasServeStops}
 use Rattle.ak_top.specs.Commands.{IsRun, scratch_limits}
-use Rattle.ak_top.specs.Ends.{IsEnd, IsRunDamage, IsRunStop, IsScratchStop, IsServing}
+use Rattle.ak_top.specs.Ends.{IsEnd, IsRunStop, IsScratchStop, IsServing}
 use Rattle.ak_top.specs.Told.{HasWorn}
 
 -- ---- Worn stores
@@ -65,51 +64,47 @@ node_later told c old mid new Exists disk port why = absurd why
 abbrev WornAs : Stop → (Stop → Type 0) → Type 0
 WornAs s P = OnWorn {T = Unit {0}} (Err s) P
 
-served_run : (told : Type 0) (old mid new : HostState) (s : Stop) → old.disk_faults ≤ mid.disk_faults → old.port_faults ≤ mid.port_faults
-    → (told → (view : View) → IsSound old.files → StandsFor view old.files → WornAs s (HasWorn view (mark_now old) (mark_now new))) → IsServeStop told mid new s → IsRunStop told old new s
-served_run told old mid new Memory disk port worn (inl why) = tt
-served_run told old mid new Disk disk port worn (inl why) = omega (arith, why.1, disk)
-served_run told old mid new Port disk port worn (inl why) = omega (arith, why.1, port)
-served_run told old mid new (Worn ordinal fill number) disk port worn (inl why) = worn
-served_run told old mid new (Damaged file block) disk port worn (inl why) = λ t. inr (why.0, why.1 t)
-served_run told old mid new Usage disk port worn (inl why) = absurd why.1
-served_run told old mid new Budget disk port worn (inl why) = absurd why.1
-served_run told old mid new NoStore disk port worn (inl why) = absurd why.1
-served_run told old mid new Exists disk port worn (inl why) = absurd why.1
-served_run told old mid new s disk port worn (inr is) = subst (IsRunStop told old new) (sym is) tt
+served_run : (told : Type 0) (number : ℕ) (was : Content) (old mid new : HostState) (s : Stop) → (told → IsFoundRecord number was old.files) → old.disk_faults ≤ mid.disk_faults → old.port_faults ≤ mid.port_faults
+    → (told → (view : View) → IsSound old.files → StandsFor view old.files → WornAs s (HasWorn view (mark_now old) (mark_now new))) → IsServeStop told was mid new s → IsRunStop told old new s
+served_run told number was old mid new Memory found disk port worn (inl why) = tt
+served_run told number was old mid new Disk found disk port worn (inl why) = omega (arith, why, disk)
+served_run told number was old mid new Port found disk port worn (inl why) = omega (arith, why, port)
+served_run told number was old mid new (Worn ordinal fill last) found disk port worn (inl why) = worn
+served_run told number was old mid new (Damaged file block) found disk port worn (inl why) = λ t. let leaf = why t in inr (record { number = number; found = was; newest = found t; now = leaf.0; becomes = leaf.1; damaged = leaf.2 })
+served_run told number was old mid new Usage found disk port worn (inl why) = absurd why
+served_run told number was old mid new Budget found disk port worn (inl why) = absurd why
+served_run told number was old mid new NoStore found disk port worn (inl why) = absurd why
+served_run told number was old mid new Exists found disk port worn (inl why) = absurd why
+served_run told number was old mid new s found disk port worn (inr is) = subst (IsRunStop told old new) (sym is) tt
 
 -- why a run stops as it is served
-pub run_stops : (told : Type 0) (old mid new : HostState) (r : Result (Unit {0}) Stop) → old.disk_faults ≤ mid.disk_faults → old.port_faults ≤ mid.port_faults
-    → (told → (view : View) → IsSound old.files → StandsFor view old.files → OnWorn r (HasWorn view (mark_now old) (mark_now new))) → HasServeStops told mid new r → IfErr r (IsRunStop told old new)
-run_stops told old mid new (Ok v) disk port worn stops = tt
-run_stops told old mid new (Err s) disk port worn stops = served_run told old mid new s disk port worn stops.stops
+pub run_stops : (told : Type 0) (number : ℕ) (was : Content) (old mid new : HostState) (r : Result (Unit {0}) Stop) → (told → IsFoundRecord number was old.files) → old.disk_faults ≤ mid.disk_faults → old.port_faults ≤ mid.port_faults
+    → (told → (view : View) → IsSound old.files → StandsFor view old.files → OnWorn r (HasWorn view (mark_now old) (mark_now new))) → HasServeStops told was mid new r → IfErr r (IsRunStop told old new)
+run_stops told number was old mid new (Ok v) found disk port worn stops = tt
+run_stops told number was old mid new (Err s) found disk port worn stops = served_run told number was old mid new s found disk port worn stops.stops
 
-served_scratch : (told : Type 0) (old mid new : HostState) (s : Stop) → old.disk_faults ≤ mid.disk_faults → old.port_faults ≤ mid.port_faults
-    → (told → WornAs s (HasWorn (first_view scratch_limits) (mark_now old) (mark_now new))) → IsServeStop told mid new s → IsScratchStop told old new s
-served_scratch told old mid new Memory disk port worn (inl why) = tt
-served_scratch told old mid new Disk disk port worn (inl why) = omega (arith, why.1, disk)
-served_scratch told old mid new Port disk port worn (inl why) = omega (arith, why.1, port)
-served_scratch told old mid new (Worn ordinal fill number) disk port worn (inl why) = worn
-served_scratch told old mid new (Damaged file block) disk port worn (inl why) = λ t. (why.0, why.1 t)
-served_scratch told old mid new Usage disk port worn (inl why) = absurd why.1
-served_scratch told old mid new Budget disk port worn (inl why) = absurd why.1
-served_scratch told old mid new NoStore disk port worn (inl why) = absurd why.1
-served_scratch told old mid new Exists disk port worn (inl why) = absurd why.1
-served_scratch told old mid new s disk port worn (inr is) = subst (IsScratchStop told old new) (sym is) tt
+served_scratch : (told : Type 0) (was : Content) (old mid new : HostState) (s : Stop) → (told → IsSoundStop s) → old.disk_faults ≤ mid.disk_faults → old.port_faults ≤ mid.port_faults
+    → (told → WornAs s (HasWorn (first_view scratch_limits) (mark_now old) (mark_now new))) → IsServeStop told was mid new s → IsScratchStop told old new s
+served_scratch told was old mid new Memory sound disk port worn (inl why) = tt
+served_scratch told was old mid new Disk sound disk port worn (inl why) = omega (arith, why, disk)
+served_scratch told was old mid new Port sound disk port worn (inl why) = omega (arith, why, port)
+served_scratch told was old mid new (Worn ordinal fill number) sound disk port worn (inl why) = worn
+served_scratch told was old mid new (Damaged file block) sound disk port worn (inl why) = sound
+served_scratch told was old mid new Usage sound disk port worn (inl why) = absurd why
+served_scratch told was old mid new Budget sound disk port worn (inl why) = absurd why
+served_scratch told was old mid new NoStore sound disk port worn (inl why) = absurd why
+served_scratch told was old mid new Exists sound disk port worn (inl why) = absurd why
+served_scratch told was old mid new s sound disk port worn (inr is) = subst (IsScratchStop told old new) (sym is) tt
 
 -- the same where it was made
-pub scratch_stops : (told : Type 0) (old mid new : HostState) (r : Result (Unit {0}) Stop) → old.disk_faults ≤ mid.disk_faults → old.port_faults ≤ mid.port_faults
-    → (told → OnWorn r (HasWorn (first_view scratch_limits) (mark_now old) (mark_now new))) → HasServeStops told mid new r → IfErr r (IsScratchStop told old new)
-scratch_stops told old mid new (Ok v) disk port worn stops = tt
-scratch_stops told old mid new (Err s) disk port worn stops = served_scratch told old mid new s disk port worn stops.stops
+pub scratch_stops : (told : Type 0) (was : Content) (old mid new : HostState) (r : Result (Unit {0}) Stop) → (told → IfErr r IsSoundStop) → old.disk_faults ≤ mid.disk_faults → old.port_faults ≤ mid.port_faults
+    → (told → OnWorn r (HasWorn (first_view scratch_limits) (mark_now old) (mark_now new))) → HasServeStops told was mid new r → IfErr r (IsScratchStop told old new)
+scratch_stops told was old mid new (Ok v) sound disk port worn stops = tt
+scratch_stops told was old mid new (Err s) sound disk port worn stops = served_scratch told was old mid new s sound disk port worn stops.stops
 
 pub run_end : (words : List (List ℕ)) (told : Type 0) (old new : HostState) → IsRun words → (s : Stop) → IsRunStop told old new s → IsEnd words told old new s
 run_end words told old new run Usage h = absurd h
-run_end words told old new run (Damaged file block) h = (inl run, λ t. damaged (h t))
-  where
-    damaged : IsDamaged file block old.files ⊎ ((c : Content) × IsDamagedLeaf c file block new.files) → IsRunDamage words old new file block
-    damaged (inl before) = inl (run, before)
-    damaged (inr leaf) = inr leaf
+run_end words told old new run (Damaged file block) h = (inl run, λ t. (run, h t))
 run_end words told old new run Disk h = h
 run_end words told old new run Port h = h
 run_end words told old new run Memory h = h
@@ -120,7 +115,7 @@ run_end words told old new run Exists h = absurd h
 
 pub scratch_end : (words : List (List ℕ)) (told : Type 0) (old new : HostState) → words ≡ [] → (s : Stop) → IsScratchStop told old new s → IsEnd words told old new s
 scratch_end words told old new none Usage h = absurd h
-scratch_end words told old new none (Damaged file block) h = (inr none, λ t. inr (h t))
+scratch_end words told old new none (Damaged file block) h = (inr none, λ t. absurd (h t))
 scratch_end words told old new none Disk h = h
 scratch_end words told old new none Port h = h
 scratch_end words told old new none Memory h = h
@@ -136,21 +131,21 @@ pub open_serving : (s : Stop) → (s ≡ Disk) ⊎ (s ≡ Memory) → IsServing 
 open_serving s (inl disk) = inl disk
 open_serving s (inr memory) = inr (inr (inl memory))
 
-serve_serving : (told : Type 0) (old new : HostState) (s : Stop) → IsServeStop told old new s → IsSoundStop s → IsServing s
-serve_serving told old new Disk why sound = inl refl
-serve_serving told old new Port why sound = inr (inl refl)
-serve_serving told old new Memory why sound = inr (inr (inl refl))
-serve_serving told old new Budget why sound = inr (inr (inr (inl refl)))
-serve_serving told old new (Worn ordinal fill number) why sound = inr (inr (inr (inr (ordinal, fill, number, refl))))
-serve_serving told old new (Damaged file block) why sound = absurd sound
-serve_serving told old new Usage (inl why) sound = absurd why.1
-serve_serving told old new Usage (inr is) sound = cc
-serve_serving told old new NoStore (inl why) sound = absurd why.1
-serve_serving told old new NoStore (inr is) sound = cc
-serve_serving told old new Exists (inl why) sound = absurd why.1
-serve_serving told old new Exists (inr is) sound = cc
+serve_serving : (told : Type 0) (was : Content) (old new : HostState) (s : Stop) → IsServeStop told was old new s → IsSoundStop s → IsServing s
+serve_serving told was old new Disk why sound = inl refl
+serve_serving told was old new Port why sound = inr (inl refl)
+serve_serving told was old new Memory why sound = inr (inr (inl refl))
+serve_serving told was old new Budget why sound = inr (inr (inr (inl refl)))
+serve_serving told was old new (Worn ordinal fill number) why sound = inr (inr (inr (inr (ordinal, fill, number, refl))))
+serve_serving told was old new (Damaged file block) why sound = absurd sound
+serve_serving told was old new Usage (inl why) sound = absurd why
+serve_serving told was old new Usage (inr is) sound = cc
+serve_serving told was old new NoStore (inl why) sound = absurd why
+serve_serving told was old new NoStore (inr is) sound = cc
+serve_serving told was old new Exists (inl why) sound = absurd why
+serve_serving told was old new Exists (inr is) sound = cc
 
 -- as it is served
-pub stops_serving : (told : Type 0) (old new : HostState) (r : Result (Unit {0}) Stop) → HasServeStops told old new r → IfErr r IsSoundStop → IfErr r IsServing
-stops_serving told old new (Ok v) stops sound = tt
-stops_serving told old new (Err s) stops sound = serve_serving told old new s stops.stops sound
+pub stops_serving : (told : Type 0) (was : Content) (old new : HostState) (r : Result (Unit {0}) Stop) → HasServeStops told was old new r → IfErr r IsSoundStop → IfErr r IsServing
+stops_serving told was old new (Ok v) stops sound = tt
+stops_serving told was old new (Err s) stops sound = serve_serving told was old new s stops.stops sound

@@ -12,18 +12,18 @@ use Rattle.ak_node.specs.declared.node.Node.{Node}
 use Rattle.ak_node.specs.declared.node.Went.{Went}
 use Rattle.ak_run.specs.Run.{World}
 
--- A run of turns stops as a node does, or where its turns are spent.
-abbrev pub IsServeStop : Type 0 → HostState → HostState → Stop → Type 0
-IsServeStop told old new s = ((c : Content) × IsNodeStop told c old new s) ⊎ (s ≡ Budget)
+-- A run of turns stops as a node does whose record was this, or where its turns are spent.
+abbrev pub IsServeStop : Type 0 → Content → HostState → HostState → Stop → Type 0
+IsServeStop told was old new s = IsNodeStop told was old new s ⊎ (s ≡ Budget)
 
-abbrev pub ServeStopsBy : Type 0 → HostState → HostState → Result (Unit {0}) Stop → Type 0
-ServeStopsBy told old new (Ok v) = Unit {0}
-ServeStopsBy told old new (Err s) = IsServeStop told old new s
+abbrev pub ServeStopsBy : Type 0 → Content → HostState → HostState → Result (Unit {0}) Stop → Type 0
+ServeStopsBy told was old new (Ok v) = Unit {0}
+ServeStopsBy told was old new (Err s) = IsServeStop told was old new s
 
-pub record HasServeStops (told : Type 0) (old new : HostState) (result : Result (Unit {0}) Stop) : Type 0 where
+pub record HasServeStops (told : Type 0) (was : Content) (old new : HostState) (result : Result (Unit {0}) Stop) : Type 0 where
   pub disk_later : old.disk_faults ≤ new.disk_faults
   pub port_later : old.port_faults ≤ new.port_faults
-  pub stops : ServeStopsBy told old new result
+  pub stops : ServeStopsBy told was old new result
 
 -- where it stops by this
 abbrev pub OnStop : {T : Type 0} → (Stop → Type 0) → Result T Stop → Type 0 → Type 0

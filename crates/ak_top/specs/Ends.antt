@@ -11,7 +11,9 @@ use Rattle.ak_image.specs.Images.{IsSound, StandsFor}
 use Rattle.ak_meta.specs.Contents.{Content}
 use Rattle.ak_node.specs.Calls.{console_of}
 use Rattle.ak_node.specs.Damage.{IsDamagedLeaf}
+use Rattle.ak_node.specs.Opening.{IsFoundRecord}
 use Rattle.ak_record.specs.Stops.{IsNoStore, IsTaken, IsDamaged}
+use Rattle.ak_tree.specs.Later.{Becomes}
 use Rattle.ak_tree.specs.Stops.{OnWorn}
 use Rattle.ak_words.specs.Words.{IsCommand}
 use Rattle.ak_top.specs.Commands.{IsRun, Makes, Serves, Opens, scratch_limits}
@@ -20,9 +22,18 @@ use Rattle.ak_top.specs.Kept.{KeepsLast}
 use Rattle.ak_top.specs.Told.{IsComplete, EndsDone, AreSpent, IsWorn, HasWorn, line_of}
 use Rattle.ak_world.specs.Views.{View, first_view}
 
--- What was damaged: for `run` what an opening reads, or a leaf that a record names and that was read in a turn.
+-- This block is damaged by the record that was found, or by what became of it in the call.
+pub record IsDamagedIn (old new : HostState) (file block : ℕ) : Type 0 where
+  pub number : ℕ
+  pub found : Content
+  pub newest : IsFoundRecord number found old.files
+  pub now : Content
+  pub becomes : Becomes found now
+  pub damaged : IsDamagedLeaf now file block new.files
+
+-- What was damaged, for `run`: what an opening reads, or a leaf that was read in a turn.
 abbrev pub IsRunDamage : List (List ℕ) → HostState → HostState → ℕ → ℕ → Type 0
-IsRunDamage words old new file block = (IsRun words × IsDamaged file block old.files) ⊎ ((c : Content) × IsDamagedLeaf c file block new.files)
+IsRunDamage words old new file block = IsRun words × (IsDamaged file block old.files ⊎ IsDamagedIn old new file block)
 
 -- Why a call with these words ends by a stop.
 abbrev pub IsEnd : List (List ℕ) → Type 0 → HostState → HostState → Stop → Type 0
@@ -68,7 +79,7 @@ IsExists s = s ≡ Exists
 -- Why a run stops: as it is opened, or as it is served.
 abbrev pub IsRunStop : Type 0 → HostState → HostState → Stop → Type 0
 IsRunStop told old new NoStore = told → IsNoStore old.files
-IsRunStop told old new (Damaged file block) = told → IsDamaged file block old.files ⊎ ((c : Content) × IsDamagedLeaf c file block new.files)
+IsRunStop told old new (Damaged file block) = told → IsDamaged file block old.files ⊎ IsDamagedIn old new file block
 IsRunStop told old new Disk = Rose old.disk_faults new.disk_faults
 IsRunStop told old new Port = Rose old.port_faults new.port_faults
 IsRunStop told old new Memory = Unit {0}
@@ -78,7 +89,7 @@ IsRunStop told old new (Worn ordinal fill number) = told → (view : View) → I
 IsRunStop told old new Usage = ⊥
 IsRunStop told old new Exists = ⊥
 
--- Why a store that is made stops: as it is made, or as it is served.
+-- Why a store that is made stops: as it is made, or as it is served. None of its blocks is damaged.
 abbrev pub IsScratchStop : Type 0 → HostState → HostState → Stop → Type 0
 IsScratchStop told old new Exists = told → IsTaken old.files
 IsScratchStop told old new Disk = Rose old.disk_faults new.disk_faults
@@ -87,7 +98,7 @@ IsScratchStop told old new Memory = Unit {0}
 IsScratchStop told old new Budget = Unit {0}
 IsScratchStop told old new (Worn ordinal fill number) = told → HasWorn (first_view scratch_limits) (mark_now old) (mark_now new) (Worn ordinal fill number)
 IsScratchStop told old new Usage = ⊥
-IsScratchStop told old new (Damaged file block) = told → (c : Content) × IsDamagedLeaf c file block new.files
+IsScratchStop told old new (Damaged file block) = told → ⊥
 IsScratchStop told old new NoStore = ⊥
 
 -- what ends a call that finds no store, or one already, before it serves any turn

@@ -10,6 +10,7 @@ ghost use Rattle.ak_image.specs.Images.{IsSound, StandsFor};
 ghost use Rattle.ak_node.specs.Calls.{HasStops, IsSilent, IsSoundStop, Told};
 ghost use Rattle.ak_node.specs.Opening.{IsFirst};
 ghost use Rattle.ak_record.specs.Stops.{IsNoStore, IsTaken, IsMakeStop};
+ghost use Rattle.ak_tree.specs.Later.{Becomes};
 ghost use Rattle.ak_tree.specs.Stops.{OnWorn};
 ghost use Rattle.ak_world.specs.Views.{View, first_view};
 ghost use Rattle.ak_words.specs.Words.{IsCommand};
@@ -36,7 +37,8 @@ fn take_turn<H: Host>(alloc: Global, host: &mut H, node: &mut Node) -> Result<We
     requires free { node.old.stop ≡ None }
     requires ready { CanServe H.tells node.old (H.state host.old) }
     ensures free { OnOk result (node.new.stop ≡ None) }
-    ensures stops { HasStops H.tells node.new.keeper.forest.meta (H.state host.old) (H.state host.new) result }
+    ensures stops { HasStops H.tells node.old.keeper.forest.meta (H.state host.old) (H.state host.new) result }
+    ensures becomes { OnOk result (Becomes node.old.keeper.forest.meta node.new.keeper.forest.meta) }
     ensures silent { H.tells → IsSilent (H.state host.old) (H.state host.new) }
     ensures sound { H.tells → (world : World) → Stands node.old world (H.state host.old) → IfErr result IsSoundStop }
     ensures ready { OnOk result (CanServe H.tells node.new (H.state host.new)) }
@@ -63,7 +65,7 @@ fn take_turn<H: Host>(alloc: Global, host: &mut H, node: &mut Node) -> Result<We
 fn serve<H: Host>(alloc: Global, host: &mut H, node: Node) -> Result<(), Stop>
     requires free { node.stop ≡ None }
     requires ready { CanServe H.tells node (H.state host.old) }
-    ensures cause { HasServeStops H.tells (H.state host.old) (H.state host.new) result }
+    ensures cause { HasServeStops H.tells node.keeper.forest.meta (H.state host.old) (H.state host.new) result }
     ensures sound { H.tells → (view : View) → Stands node (world_of view) (H.state host.old) → IfErr result IsSoundStop }
     ensures silent { H.tells → IsSilent (H.state host.old) (H.state host.new) }
     ensures spent { H.tells → (view : View) → Stands node (world_of view) (H.state host.old)
@@ -211,6 +213,8 @@ pub fn akl<H: Host>(alloc: Global, words: &[String], host: &mut H) -> u8
     ensures usage { ¬ (IsCommand (map string_bytes words.now)) → (result ≡ 1) ⊎ (result ≡ 5) }
     ensures no_store { H.tells → IsRun (map string_bytes words.now) → IsNoStore (H.state host.old).files → IsOneOf 8 3 5 result }
     ensures exists { H.tells → (limits : Limits) → Makes (map string_bytes words.now) limits → IsTaken (H.state host.old).files → IsOneOf 9 3 5 result }
+    // A store that is sound is never damaged.
+    ensures undamaged { H.tells → (view : View) → Opens (map string_bytes words.now) (H.state host.old) view → Serves (map string_bytes words.now) → result ≢ 2 }
 
     // At each moment of the call, what was told are the answers to the turns so far.
     ensures told { H.tells → (view : View) → Opens (map string_bytes words.now) (H.state host.old) view

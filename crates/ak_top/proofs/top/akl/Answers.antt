@@ -1,5 +1,5 @@
 use Rattle.std.proofs.Common.{inl, refl}
-use Rattle.ak_top.proofs.Ends.{silent_console, told_done, told_failed, quiet_end, lined, making_from, making_failed, keeps_on, ends_failed, missing_status, there_status, stop_some, complete_failed, budget_failed, worn_failed, finished_failed, made_failed, budget_done}
+use Rattle.ak_top.proofs.Ends.{silent_console, told_done, told_failed, quiet_end, lined, making_from, making_failed, keeps_on, ends_failed, missing_status, there_status, stop_some, undamaged_failed, complete_failed, budget_failed, worn_failed, finished_failed, made_failed, budget_done}
 use Rattle.ak_top.proofs.top.akl.Goals as goal
 
 -- ---- Done
@@ -69,6 +69,9 @@ pub returns-in-Err-clause-complete_create : goal.returns-in-Err-clause-complete_
 returns-in-Err-clause-complete_create g c told limits creates none no_disk =
     made_failed _ _ (g.H.Outside.state c.args.host.now) (g.H.Outside.state c.perform.new.host) (g.H.Outside.state c.fail.new.ports) c.in-Err.stop c.fail.result c.fail.ensures.status c.in-Err.ensures.cause
     (c.in-Err.ensures.making limits creates) told none c.fail.ensures.disk_faults no_disk
+
+pub returns-in-Err-clause-undamaged : goal.returns-in-Err-clause-undamaged
+returns-in-Err-clause-undamaged g c told view opens serves = undamaged_failed c.in-Err.stop c.fail.result c.fail.ensures.status (c.in-Err.ensures.sound told view opens serves)
 
 pub returns-in-Err-clause-spent : goal.returns-in-Err-clause-spent
 returns-in-Err-clause-spent g c told view opens six =

@@ -51,14 +51,14 @@ returns-clause-served g c told view sound stands =
 
 pub returns-clause-cause : goal.returns-clause-cause
 returns-clause-cause g c =
-    run_stops g.H.Outside.tells (g.H.Outside.state c.args.host.now) (g.H.Outside.state c.open.new.disk) (g.H.Outside.state c.serve.new.host) c.serve.result
+    run_stops g.H.Outside.tells _ _ (g.H.Outside.state c.args.host.now) (g.H.Outside.state c.open.new.disk) (g.H.Outside.state c.serve.new.host) c.serve.result c.in_ok-node.ensures.found
     c.open.ensures.disk_later (omega (arith, c.open.ensures.port_faults))
     (λ told view sound stands. (returns-clause-served g c told view sound stands).worn) c.serve.ensures.cause
 
 pub returns-clause-sound : goal.returns-clause-sound
 returns-clause-sound g c told view sound stands =
     let there = c.in_ok-node.ensures.stands told view sound stands in
-    stops_serving g.H.Outside.tells (g.H.Outside.state c.open.new.disk) (g.H.Outside.state c.serve.new.host) c.serve.result c.serve.ensures.cause (c.serve.ensures.sound told view there)
+    stops_serving g.H.Outside.tells _ (g.H.Outside.state c.open.new.disk) (g.H.Outside.state c.serve.new.host) c.serve.result c.serve.ensures.cause (c.serve.ensures.sound told view there)
 
 pub returns-clause-stands : goal.returns-clause-stands
 returns-clause-stands g c told view sound stands =

@@ -55,7 +55,8 @@ returns-clause-served g c told =
 
 pub returns-clause-cause : goal.returns-clause-cause
 returns-clause-cause g c =
-    scratch_stops g.H.Outside.tells (g.H.Outside.state c.args.host.now) (g.H.Outside.state c.make.new.disk) (g.H.Outside.state c.serve.new.host) c.serve.result
+    scratch_stops g.H.Outside.tells _ (g.H.Outside.state c.args.host.now) (g.H.Outside.state c.make.new.disk) (g.H.Outside.state c.serve.new.host) c.serve.result
+    (λ told. c.serve.ensures.sound told (first_view scratch_limits) (c.in_ok-node.ensures.stands told))
     c.make.ensures.disk_later (omega (arith, c.make.ensures.port_faults))
     (λ told. (returns-clause-served g c told).worn) c.serve.ensures.cause
 
@@ -64,7 +65,7 @@ returns-clause-sound g c told =
     let view = first_view scratch_limits in
     let there = c.in_ok-node.ensures.stands told in
     IfErr-weaker c.serve.result IsServing IsServingOrThere (λ s is. inl is)
-    (stops_serving g.H.Outside.tells (g.H.Outside.state c.make.new.disk) (g.H.Outside.state c.serve.new.host) c.serve.result c.serve.ensures.cause (c.serve.ensures.sound told view there))
+    (stops_serving g.H.Outside.tells _ (g.H.Outside.state c.make.new.disk) (g.H.Outside.state c.serve.new.host) c.serve.result c.serve.ensures.cause (c.serve.ensures.sound told view there))
 
 pub returns-clause-stands : goal.returns-clause-stands
 returns-clause-stands g c told =

@@ -1,4 +1,4 @@
-use Rattle.std.proofs.Common.{subst}
+use Rattle.std.proofs.Common.{rules, subst}
 use Rattle.ak_host.specs.Marks.{done}
 use Rattle.ak_host.specs.Moments.{mark_now}
 use Rattle.ak_host.proofs.Passing.{mark_holds}
@@ -6,6 +6,8 @@ use Rattle.ak_node.specs.Standing.{AfterTurn, InAct}
 use Rattle.ak_node.specs.declared.node.Went.{Went}
 use Rattle.ak_top.proofs.Stopping.{worn_handed}
 use Rattle.ak_top.proofs.Taking.{whole_more, has_taken, act_starts, finish_passes, finish_wears, finish_after}
+use Rattle.ak_node.proofs.Stopping.{stops_on, stops_of}
+use Rattle.ak_tree.proofs.Becoming.{becomes_on}
 use Rattle.ak_top.proofs.top.take_turn.Goals as goal
 
 pub returns-in_err-finish-in-Done-clause-worn : goal.returns-in_err-finish-in-Done-clause-worn
@@ -53,3 +55,18 @@ returns-in_ok-finish-in-Done-clause-moments g c told world stands =
     let P : Went → Type 0 = λ w. AfterTurn world (mark_now old) (mark_now mid) c.turn.new.self mid w in
     let t = has_taken world (mark_now old) (mark_now mid) c.turn.new.self mid (subst P c.in-Done.is (c.in_ok-turn.ensures.after told world stands)) in
     finish_passes world old mid new c.turn.new.self t (c.turn.ensures.moments told world stands) (c.finish.ensures.moments told world t.stands)
+
+pub returns-in_err-finish-in-Done-clause-stops : goal.returns-in_err-finish-in-Done-clause-stops
+returns-in_err-finish-in-Done-clause-stops g c =
+    let ended = stops_of _ _ _ _ _ _ c.in_ok-turn.ensures.becomes (c.in_err-finish-in-Done.ensures.stops (c.in_ok-turn.ensures.fresh)) in
+    let stops = stops_on _ _ _ _ _ _ _ (c.in_ok-turn.ensures.stops c.requires.free) ended in
+    search rules
+
+pub returns-in_ok-finish-in-Done-clause-stops : goal.returns-in_ok-finish-in-Done-clause-stops
+returns-in_ok-finish-in-Done-clause-stops g c =
+    let ended = stops_of _ _ _ _ _ _ c.in_ok-turn.ensures.becomes (c.in_ok-finish-in-Done.ensures.stops (c.in_ok-turn.ensures.fresh)) in
+    let stops = stops_on _ _ _ _ _ _ _ (c.in_ok-turn.ensures.stops c.requires.free) ended in
+    search rules
+
+pub returns-in_ok-finish-in-Done-clause-becomes : goal.returns-in_ok-finish-in-Done-clause-becomes
+returns-in_ok-finish-in-Done-clause-becomes g c = becomes_on c.in_ok-turn.ensures.becomes c.in_ok-finish-in-Done.ensures.becomes
