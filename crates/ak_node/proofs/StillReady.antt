@@ -83,11 +83,11 @@ holds_still content before after old new forest reads is holds = subst (λ (f : 
 -- ---- Stops
 
 stops_by : {T : Type 0} (told : Type 0) (c : Content) (old new : HostState) (result : Result T Stop) → OnlyReads told old new
-    → IfErr result (IsReadStop (λ file block. told → IsDamagedLeaf c file block old.files) old new) → StopsBy told c old new result
+    → IfErr result (IsReadStop (λ file block. told → IsDamagedLeaf c file block old.files) old new) → StopsBy told c c old new result
 stops_by told c old new (Ok v) reads is = tt
 stops_by told c old new (Err Memory) reads is = tt
 stops_by told c old new (Err Disk) reads is = is
-stops_by told c old new (Err (Damaged file block)) reads is = λ tells. (c, becomes_same c, subst (λ (files : Files). IsDamagedLeaf c file block files) (sym (reads.files tells)) (is tells))
+stops_by told c old new (Err (Damaged file block)) reads is = λ tells. (becomes_same c, subst (λ (files : Files). IsDamagedLeaf c file block files) (sym (reads.files tells)) (is tells))
 stops_by told c old new (Err (Worn ordinal fill number)) reads is = absurd is
 stops_by told c old new (Err Port) reads is = absurd is
 stops_by told c old new (Err Usage) reads is = absurd is
@@ -96,7 +96,7 @@ stops_by told c old new (Err NoStore) reads is = absurd is
 stops_by told c old new (Err Exists) reads is = absurd is
 
 pub has_stops : {T : Type 0} (told : Type 0) (c : Content) (old new : HostState) (result : Result T Stop) → OnlyReads told old new
-    → IfErr result (IsReadStop (λ file block. told → IsDamagedLeaf c file block old.files) old new) → HasStops told c old new result
+    → IfErr result (IsReadStop (λ file block. told → IsDamagedLeaf c file block old.files) old new) → HasStops told c c old new result
 has_stops told c old new result reads is = record {
   disk_later = reads.later;
   port_later = omega (arith, reads.port_faults);

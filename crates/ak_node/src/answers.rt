@@ -26,7 +26,7 @@ use std::alloc::Global;
 
 /// Tells a port these bytes, where there are any.
 fn tell<H: Host>(host: &mut H, port: u32, bytes: &[u8]) -> Result<(), Stop>
-    ensures stops { (c : Content) → HasStops H.tells c (H.state host.old) (H.state host.new) result }
+    ensures stops { (was now : Content) → HasStops H.tells was now (H.state host.old) (H.state host.new) result }
     ensures silent { H.tells → 1 ≤ port → IsSilent (H.state host.old) (H.state host.new) }
     ensures stop { IfErr result (λ stop. stop ≡ Stop.Port) }
     ensures told { H.tells → OnOk result (Told (mark_now (H.state host.old)) (mark_now (H.state host.new)) port bytes.now) }
@@ -46,7 +46,7 @@ fn tell<H: Host>(host: &mut H, port: u32, bytes: &[u8]) -> Result<(), Stop>
 
 /// Tells a port that it is refused by this.
 pub fn refuse<H: Host>(alloc: Global, host: &mut H, port: u32, refusal: Refusal) -> Result<(), Stop>
-    ensures stops { (c : Content) → HasStops H.tells c (H.state host.old) (H.state host.new) result }
+    ensures stops { (was now : Content) → HasStops H.tells was now (H.state host.old) (H.state host.new) result }
     ensures silent { H.tells → 1 ≤ port → IsSilent (H.state host.old) (H.state host.new) }
     ensures stop { IfErr result IsOutside }
     ensures told { H.tells → OnOk result (Told (mark_now (H.state host.old)) (mark_now (H.state host.new)) port (refusal_reply refusal)) }
@@ -75,7 +75,7 @@ fn points<H: Host>(
     requires ready { IsReady H.tells keeper.old (H.state host.old) }
     requires alike { length values.now ≡ length names.now }
     requires canonical { AllByRecursion IsCanonical names.now }
-    ensures stops { HasStops H.tells keeper.old.forest.meta (H.state host.old) (H.state host.new) result }
+    ensures stops { HasStops H.tells keeper.old.forest.meta keeper.new.forest.meta (H.state host.old) (H.state host.new) result }
     ensures becomes { OnOk result (Becomes keeper.old.forest.meta keeper.new.forest.meta) }
     ensures silent { H.tells → 1 ≤ port → IsSilent (H.state host.old) (H.state host.new) }
     ensures sound { IfErr result IsSoundStop }
@@ -106,7 +106,7 @@ fn rows<H: Host>(
     metric: &[u8],
 ) -> Result<(), Stop>
     requires ready { IsReady H.tells keeper.old (H.state host.old) }
-    ensures stops { HasStops H.tells keeper.old.forest.meta (H.state host.old) (H.state host.new) result }
+    ensures stops { HasStops H.tells keeper.old.forest.meta keeper.new.forest.meta (H.state host.old) (H.state host.new) result }
     ensures becomes { OnOk result (Becomes keeper.old.forest.meta keeper.new.forest.meta) }
     ensures silent { H.tells → 1 ≤ port → IsSilent (H.state host.old) (H.state host.new) }
     ensures not_worn { OnWorn result (λ stop. ⊥) }
@@ -132,7 +132,7 @@ fn rows<H: Host>(
 /// Closes all open leaves, takes a view, and confirms it.
 fn flush<H: Host>(alloc: Global, host: &mut H, keeper: &mut Keeper, port: u32) -> Result<(), Stop>
     requires ready { IsReady H.tells keeper.old (H.state host.old) }
-    ensures stops { HasStops H.tells keeper.old.forest.meta (H.state host.old) (H.state host.new) result }
+    ensures stops { HasStops H.tells keeper.old.forest.meta keeper.new.forest.meta (H.state host.old) (H.state host.new) result }
     ensures becomes { OnOk result (Becomes keeper.old.forest.meta keeper.new.forest.meta) }
     ensures silent { H.tells → 1 ≤ port → IsSilent (H.state host.old) (H.state host.new) }
     ensures sound { IfErr result IsSoundStop }
@@ -161,7 +161,7 @@ pub fn answer<H: Host>(
 ) -> Result<(), Stop>
     requires ready { IsReady H.tells keeper.old (H.state host.old) }
     requires allowed { IsAllowed asked }
-    ensures stops { HasStops H.tells keeper.old.forest.meta (H.state host.old) (H.state host.new) result }
+    ensures stops { HasStops H.tells keeper.old.forest.meta keeper.new.forest.meta (H.state host.old) (H.state host.new) result }
     ensures becomes { OnOk result (Becomes keeper.old.forest.meta keeper.new.forest.meta) }
     ensures silent { H.tells → 1 ≤ port → IsSilent (H.state host.old) (H.state host.new) }
     ensures sound { H.tells → (content : Store) → Holds content keeper.old (H.state host.old) → IfErr result IsSoundStop }

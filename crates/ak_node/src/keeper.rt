@@ -30,7 +30,7 @@ impl Keeper {
     /// Closes all open leaves by rising number of their series, and takes a view.
     pub fn flush<D: Disk>(&mut self, alloc: Global, disk: &mut D) -> Result<(), Stop>
         requires ready { IsReady D.tells self.old (D.state disk.old) }
-        ensures stops { HasStops D.tells self.old.forest.meta (D.state disk.old) (D.state disk.new) result }
+        ensures stops { HasStops D.tells self.old.forest.meta self.new.forest.meta (D.state disk.old) (D.state disk.new) result }
         ensures becomes { OnOk result (Becomes self.old.forest.meta self.new.forest.meta) }
         ensures sound { IfErr result IsSoundStop }
         ensures ready { OnOk result (IsReady D.tells self.new (D.state disk.new)) }

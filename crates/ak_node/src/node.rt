@@ -76,7 +76,7 @@ fn open_session(
 
 /// Tells the end of a session, where it is inside a message.
 fn tell_end<H: Host>(alloc: Global, host: &mut H, session: &Session) -> Result<(), Stop>
-    ensures stops { (c : Content) → HasStops H.tells c (H.state host.old) (H.state host.new) result }
+    ensures stops { (was now : Content) → HasStops H.tells was now (H.state host.old) (H.state host.new) result }
     ensures silent { H.tells → 1 ≤ session.now.port → IsSilent (H.state host.old) (H.state host.new) }
     ensures stop { IfErr result IsOutside }
     ensures reads { H.tells → (H.state host.new).reads ≡ (H.state host.old).reads }
@@ -97,7 +97,7 @@ fn tell_end<H: Host>(alloc: Global, host: &mut H, session: &Session) -> Result<(
 /// Tells the ends of these sessions, in order.
 fn tell_ends<H: Host>(alloc: Global, host: &mut H, sessions: &[Session]) -> Result<(), Stop>
     requires { AllByRecursion (λ s. 1 ≤ s.port) sessions.now }
-    ensures stops { (c : Content) → HasStops H.tells c (H.state host.old) (H.state host.new) result }
+    ensures stops { (was now : Content) → HasStops H.tells was now (H.state host.old) (H.state host.new) result }
     ensures silent { H.tells → IsSilent (H.state host.old) (H.state host.new) }
     ensures stop { IfErr result IsOutside }
     ensures reads { H.tells → (H.state host.new).reads ≡ (H.state host.old).reads }
@@ -136,7 +136,7 @@ impl Node {
         requires port { 1 ≤ port }
         requires ready { CanServe H.tells self.old (H.state host.old) }
         ensures stop { self.new.stop ≡ self.old.stop }
-        ensures stops { HasStops H.tells self.old.keeper.forest.meta (H.state host.old) (H.state host.new) result }
+        ensures stops { HasStops H.tells self.old.keeper.forest.meta self.new.keeper.forest.meta (H.state host.old) (H.state host.new) result }
         ensures becomes { OnOk result (Becomes self.old.keeper.forest.meta self.new.keeper.forest.meta) }
         ensures silent { H.tells → IsSilent (H.state host.old) (H.state host.new) }
         ensures sound { H.tells → (world : World) → Stands self.old world (H.state host.old) → IfErr result IsSoundStop }
@@ -162,7 +162,7 @@ impl Node {
         requires ready { CanServe H.tells self.old (H.state host.old) }
         ensures stop { self.new.stop ≡ self.old.stop }
         ensures keeper { self.new.keeper ≡ self.old.keeper }
-        ensures stops { (c : Content) → HasStops H.tells c (H.state host.old) (H.state host.new) result }
+        ensures stops { (was now : Content) → HasStops H.tells was now (H.state host.old) (H.state host.new) result }
         ensures silent { H.tells → IsSilent (H.state host.old) (H.state host.new) }
         ensures outside { IfErr result IsOutside }
         ensures reads { H.tells → (H.state host.new).reads ≡ (H.state host.old).reads }
@@ -185,7 +185,7 @@ impl Node {
     fn finish_all<H: Host>(&mut self, alloc: Global, host: &mut H) -> Result<(), Stop>
         requires ready { CanServe H.tells self.old (H.state host.old) }
         ensures stop { self.new.stop ≡ self.old.stop }
-        ensures stops { HasStops H.tells self.old.keeper.forest.meta (H.state host.old) (H.state host.new) result }
+        ensures stops { HasStops H.tells self.old.keeper.forest.meta self.new.keeper.forest.meta (H.state host.old) (H.state host.new) result }
         ensures becomes { OnOk result (Becomes self.old.keeper.forest.meta self.new.keeper.forest.meta) }
         ensures silent { H.tells → IsSilent (H.state host.old) (H.state host.new) }
         ensures sound { IfErr result IsSoundStop }
@@ -214,7 +214,7 @@ impl Node {
         requires turn { IsTurn turn }
         requires ready { CanServe H.tells self.old (H.state host.old) }
         ensures stop { self.new.stop ≡ self.old.stop }
-        ensures stops { HasStops H.tells self.old.keeper.forest.meta (H.state host.old) (H.state host.new) result }
+        ensures stops { HasStops H.tells self.old.keeper.forest.meta self.new.keeper.forest.meta (H.state host.old) (H.state host.new) result }
         ensures becomes { OnOk result (Becomes self.old.keeper.forest.meta self.new.keeper.forest.meta) }
         ensures silent { H.tells → IsSilent (H.state host.old) (H.state host.new) }
         ensures sound { H.tells → (world : World) → Stands self.old world (H.state host.old) → IfErr result IsSoundStop }
@@ -257,7 +257,7 @@ impl Node {
         ensures kept { IfSome self.old.stop (λ stop. (result ≡ Err stop) × (self.new ≡ self.old) × (host.new ≡ host.old)) }
         ensures keeps { IfErr result (λ stop. self.new.stop ≡ Some stop) }
         ensures fresh { OnOk result (self.new.stop ≡ None) }
-        ensures stops { self.old.stop ≡ None → HasStops H.tells self.old.keeper.forest.meta (H.state host.old) (H.state host.new) result }
+        ensures stops { self.old.stop ≡ None → HasStops H.tells self.old.keeper.forest.meta self.new.keeper.forest.meta (H.state host.old) (H.state host.new) result }
         ensures becomes { OnOk result (Becomes self.old.keeper.forest.meta self.new.keeper.forest.meta) }
         ensures silent { H.tells → IsSilent (H.state host.old) (H.state host.new) }
         ensures went { IfOk result (λ went. went ≡ went_after turn) }
@@ -295,7 +295,7 @@ impl Node {
         ensures kept { IfSome self.old.stop (λ stop. (result ≡ Err stop) × (self.new ≡ self.old) × (host.new ≡ host.old)) }
         ensures keeps { IfErr result (λ stop. self.new.stop ≡ Some stop) }
         ensures fresh { OnOk result (self.new.stop ≡ None) }
-        ensures stops { self.old.stop ≡ None → HasStops H.tells self.old.keeper.forest.meta (H.state host.old) (H.state host.new) result }
+        ensures stops { self.old.stop ≡ None → HasStops H.tells self.old.keeper.forest.meta self.new.keeper.forest.meta (H.state host.old) (H.state host.new) result }
         ensures becomes { OnOk result (Becomes self.old.keeper.forest.meta self.new.keeper.forest.meta) }
         ensures silent { H.tells → IsSilent (H.state host.old) (H.state host.new) }
         ensures sound { H.tells → (world : World) → Stands self.old world (H.state host.old) → IfErr result IsSoundStop }
@@ -336,7 +336,7 @@ impl Node {
         ensures kept { IfSome self.old.stop (λ stop. (result ≡ Err stop) × (self.new ≡ self.old) × (host.new ≡ host.old)) }
         ensures keeps { IfErr result (λ stop. self.new.stop ≡ Some stop) }
         ensures fresh { OnOk result (self.new.stop ≡ None) }
-        ensures stops { self.old.stop ≡ None → HasStops H.tells self.old.keeper.forest.meta (H.state host.old) (H.state host.new) result }
+        ensures stops { self.old.stop ≡ None → HasStops H.tells self.old.keeper.forest.meta self.new.keeper.forest.meta (H.state host.old) (H.state host.new) result }
         ensures becomes { OnOk result (Becomes self.old.keeper.forest.meta self.new.keeper.forest.meta) }
         ensures sound { self.old.stop ≡ None → IfErr result IsSoundStop }
         ensures silent { H.tells → IsSilent (H.state host.old) (H.state host.new) }

@@ -75,7 +75,7 @@ fn accept_all<D: Disk>(
     requires places { ArePlaces places.now names.now keeper.old.names }
     requires known { AllByRecursion (λ name. list_any (λ n. bytes_eq name n) keeper.old.names ≡ true) names.now }
     requires none_late { late_known keeper.old.forest keeper.old.names names.now time ≡ None }
-    ensures stops { HasStops D.tells keeper.old.forest.meta (D.state disk.old) (D.state disk.new) result }
+    ensures stops { HasStops D.tells keeper.old.forest.meta keeper.new.forest.meta (D.state disk.old) (D.state disk.new) result }
     ensures becomes { OnOk result (Becomes keeper.old.forest.meta keeper.new.forest.meta) }
     ensures sound { IfErr result IsSoundStop }
     ensures ready { OnOk result (IsReady D.tells keeper.new (D.state disk.new)) }
@@ -113,7 +113,7 @@ pub fn put<D: Disk>(
     requires ready { IsReady D.tells keeper.old (D.state disk.old) }
     requires alike { length values.now ≡ length names.now }
     requires canonical { AllByRecursion IsCanonical names.now }
-    ensures stops { HasStops D.tells keeper.old.forest.meta (D.state disk.old) (D.state disk.new) result }
+    ensures stops { HasStops D.tells keeper.old.forest.meta keeper.new.forest.meta (D.state disk.old) (D.state disk.new) result }
     ensures becomes { OnOk result (Becomes keeper.old.forest.meta keeper.new.forest.meta) }
     ensures sound { IfErr result IsSoundStop }
     ensures ready { OnOk result (IsReady D.tells keeper.new (D.state disk.new)) }

@@ -31,7 +31,7 @@ fn act<H: Host>(
     message: &Message,
 ) -> Result<(), Stop>
     requires ready { IsReady H.tells keeper.old (H.state host.old) }
-    ensures stops { HasStops H.tells keeper.old.forest.meta (H.state host.old) (H.state host.new) result }
+    ensures stops { HasStops H.tells keeper.old.forest.meta keeper.new.forest.meta (H.state host.old) (H.state host.new) result }
     ensures becomes { OnOk result (Becomes keeper.old.forest.meta keeper.new.forest.meta) }
     ensures silent { H.tells → 1 ≤ port → IsSilent (H.state host.old) (H.state host.new) }
     ensures sound { H.tells → (content : Store) → Holds content keeper.old (H.state host.old) → IfErr result IsSoundStop }
@@ -68,7 +68,7 @@ fn advance<H: Host>(
     ensures port { session.new.port ≡ session.old.port }
     ensures within { at.new ≤ length piece.now }
     ensures moves { IfOk result (λ more. IsTrue more → at.old < at.new) }
-    ensures stops { HasStops H.tells keeper.old.forest.meta (H.state host.old) (H.state host.new) result }
+    ensures stops { HasStops H.tells keeper.old.forest.meta keeper.new.forest.meta (H.state host.old) (H.state host.new) result }
     ensures becomes { OnOk result (Becomes keeper.old.forest.meta keeper.new.forest.meta) }
     ensures silent { H.tells → IsSilent (H.state host.old) (H.state host.new) }
     ensures sound { H.tells → (begun : Begun) → ReadsOn begun keeper.old session.old (begun.stream ++ take at.old piece.now) (mark_now (H.state host.old)) (H.state host.old) → IfErr result IsSoundStop }
@@ -113,7 +113,7 @@ pub fn read<H: Host>(
     requires ready { IsReady H.tells keeper.old (H.state host.old) }
     requires port { 1 ≤ session.old.port }
     ensures port { session.new.port ≡ session.old.port }
-    ensures stops { HasStops H.tells keeper.old.forest.meta (H.state host.old) (H.state host.new) result }
+    ensures stops { HasStops H.tells keeper.old.forest.meta keeper.new.forest.meta (H.state host.old) (H.state host.new) result }
     ensures becomes { OnOk result (Becomes keeper.old.forest.meta keeper.new.forest.meta) }
     ensures silent { H.tells → IsSilent (H.state host.old) (H.state host.new) }
     ensures sound { H.tells → (begun : Begun) → ReadsOn begun keeper.old session.old begun.stream (mark_now (H.state host.old)) (H.state host.old) → IfErr result IsSoundStop }

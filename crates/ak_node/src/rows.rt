@@ -224,7 +224,7 @@ pub fn write_metric<D: Disk>(
     requires ready { IsReady D.tells keeper.old (D.state disk.old) }
     ensures forest { keeper.new.forest ≡ keeper.old.forest }
     ensures names { keeper.new.names ≡ keeper.old.names }
-    ensures stops { HasStops D.tells keeper.old.forest.meta (D.state disk.old) (D.state disk.new) result }
+    ensures stops { HasStops D.tells keeper.old.forest.meta keeper.old.forest.meta (D.state disk.old) (D.state disk.new) result }
     ensures not_worn { OnWorn result (λ stop. ⊥) }
     ensures sound { D.tells → (content : Store) → Holds content keeper.old (D.state disk.old) → IfErr result IsSoundStop }
     ensures ready { IsReady D.tells keeper.new (D.state disk.new) }

@@ -37,7 +37,7 @@ fn take_turn<H: Host>(alloc: Global, host: &mut H, node: &mut Node) -> Result<We
     requires free { node.old.stop ≡ None }
     requires ready { CanServe H.tells node.old (H.state host.old) }
     ensures free { OnOk result (node.new.stop ≡ None) }
-    ensures stops { HasStops H.tells node.old.keeper.forest.meta (H.state host.old) (H.state host.new) result }
+    ensures stops { HasStops H.tells node.old.keeper.forest.meta node.new.keeper.forest.meta (H.state host.old) (H.state host.new) result }
     ensures becomes { OnOk result (Becomes node.old.keeper.forest.meta node.new.keeper.forest.meta) }
     ensures silent { H.tells → IsSilent (H.state host.old) (H.state host.new) }
     ensures sound { H.tells → (world : World) → Stands node.old world (H.state host.old) → IfErr result IsSoundStop }

@@ -14,12 +14,12 @@ use Rattle.ak_tree.proofs.Becoming.{becomes_same}
 use Rattle.ak_node.proofs.answers.answer.Goals as goal
 
 pub returns-in-Refused-clause-stops : goal.returns-in-Refused-clause-stops
-returns-in-Refused-clause-stops g c = c.refuse.ensures.stops _
+returns-in-Refused-clause-stops g c = c.refuse.ensures.stops _ _
 
 pub returns-in-Refused-clause-ready : goal.returns-in-Refused-clause-ready
 returns-in-Refused-clause-ready g c =
     ok_is c.refuse.result (ready_after_ports g.H.Outside.tells c.args.keeper.now (g.H.Outside.state c.args.host.now) (g.H.Outside.state c.refuse.new.host) c.requires.ready
-    (c.refuse.ensures.stops c.args.keeper.now.forest.meta).sizes c.refuse.ensures.files (λ told. ports_leave (c.refuse.ensures.moments told)))
+    (c.refuse.ensures.stops c.args.keeper.now.forest.meta c.args.keeper.now.forest.meta).sizes c.refuse.ensures.files (λ told. ports_leave (c.refuse.ensures.moments told)))
 
 pub returns-in-Refused-clause-after : goal.returns-in-Refused-clause-after
 returns-in-Refused-clause-after g c told content holds =

@@ -13,11 +13,11 @@ pub returns-in_err-flush-clause-moments : goal.returns-in_err-flush-clause-momen
 returns-in_err-flush-clause-moments g c told content holds = disk_part c.args.port content Flush holds.keeps.not_worn (c.flush.ensures.moments told content holds)
 
 pub returns-clause-stops : goal.returns-clause-stops
-returns-clause-stops g c = stops_on _ _ _ _ _ c.flush.result c.tell.result c.flush.ensures.stops (c.tell.ensures.stops _)
+returns-clause-stops g c = stops_on _ _ _ _ _ _ _ c.flush.result c.tell.result c.flush.ensures.stops (c.tell.ensures.stops _ _)
 
 pub returns-clause-ready : goal.returns-clause-ready
 returns-clause-ready g c =
-    ok_is c.tell.result (ready_after_ports g.H.Outside.tells c.flush.new.self (g.H.Outside.state c.flush.new.disk) (g.H.Outside.state c.tell.new.host) c.in_ok-flush.ensures.ready (c.tell.ensures.stops c.flush.new.self.forest.meta).sizes c.tell.ensures.files
+    ok_is c.tell.result (ready_after_ports g.H.Outside.tells c.flush.new.self (g.H.Outside.state c.flush.new.disk) (g.H.Outside.state c.tell.new.host) c.in_ok-flush.ensures.ready (c.tell.ensures.stops c.flush.new.self.forest.meta c.flush.new.self.forest.meta).sizes c.tell.ensures.files
     (λ told. ports_leave (c.tell.ensures.moments told)))
 
 pub returns-clause-after : goal.returns-clause-after

@@ -11,11 +11,11 @@ use Rattle.ak_node.proofs.Stopping.{stops_on}
 use Rattle.ak_node.proofs.answers.points.Goals as goal
 
 pub returns-in-Some-clause-stops : goal.returns-in-Some-clause-stops
-returns-in-Some-clause-stops g c = stops_on _ _ _ _ _ c.put.result c.refuse.result c.put.ensures.stops (c.refuse.ensures.stops _)
+returns-in-Some-clause-stops g c = stops_on _ _ _ _ _ _ _ c.put.result c.refuse.result c.put.ensures.stops (c.refuse.ensures.stops _ _)
 
 pub returns-in-Some-clause-ready : goal.returns-in-Some-clause-ready
 returns-in-Some-clause-ready g c =
-    ok_is c.refuse.result (ready_after_ports g.H.Outside.tells c.put.new.keeper (g.H.Outside.state c.put.new.disk) (g.H.Outside.state c.refuse.new.host) c.in_ok-refusal.ensures.ready (c.refuse.ensures.stops c.put.new.keeper.forest.meta).sizes c.refuse.ensures.files
+    ok_is c.refuse.result (ready_after_ports g.H.Outside.tells c.put.new.keeper (g.H.Outside.state c.put.new.disk) (g.H.Outside.state c.refuse.new.host) c.in_ok-refusal.ensures.ready (c.refuse.ensures.stops c.put.new.keeper.forest.meta c.put.new.keeper.forest.meta).sizes c.refuse.ensures.files
     (λ told. ports_leave (c.refuse.ensures.moments told)))
 
 pub returns-in-Some-clause-after : goal.returns-in-Some-clause-after

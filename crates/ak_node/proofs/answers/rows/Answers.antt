@@ -17,12 +17,12 @@ returns-in_err-write_metric-clause-moments g c told content holds =
     disk_part c.args.port content (Rows c.args.metric.now) holds.keeps.not_worn (reads_leave content c.args.keeper.now old (g.H.Outside.state c.write_metric.new.disk) holds (c.write_metric.ensures.moments told))
 
 pub returns-in-Ok-clause-stops : goal.returns-in-Ok-clause-stops
-returns-in-Ok-clause-stops g c = stops_on _ _ _ _ _ c.write_metric.result c.tell.result c.write_metric.ensures.stops (c.tell.ensures.stops _)
+returns-in-Ok-clause-stops g c = stops_on _ _ _ _ _ _ _ c.write_metric.result c.tell.result c.write_metric.ensures.stops (c.tell.ensures.stops _ _)
 
 pub returns-in-Ok-clause-ready : goal.returns-in-Ok-clause-ready
 returns-in-Ok-clause-ready g c =
     ok_is c.tell.result (ready_after_ports g.H.Outside.tells c.write_metric.new.keeper (g.H.Outside.state c.write_metric.new.disk) (g.H.Outside.state c.tell.new.host) c.write_metric.ensures.ready
-    (c.tell.ensures.stops c.write_metric.new.keeper.forest.meta).sizes c.tell.ensures.files (λ told. ports_leave (c.tell.ensures.moments told)))
+    (c.tell.ensures.stops c.args.keeper.now.forest.meta c.write_metric.new.keeper.forest.meta).sizes c.tell.ensures.files (λ told. ports_leave (c.tell.ensures.moments told)))
 
 pub returns-in-Ok-clause-after : goal.returns-in-Ok-clause-after
 returns-in-Ok-clause-after g c told content holds =
@@ -58,3 +58,8 @@ returns-clause-moments g c told content holds =
 
 pub returns-in-Ok-clause-becomes : goal.returns-in-Ok-clause-becomes
 returns-in-Ok-clause-becomes g c = ok_is c.tell.result (becomes_it _ _ (ap (λ (t : Trees). t.meta) c.write_metric.ensures.forest))
+
+pub returns-in_err-write_metric-clause-stops : goal.returns-in_err-write_metric-clause-stops
+returns-in_err-write_metric-clause-stops g c =
+    let same : c.write_metric.new.keeper.forest ≡ c.args.keeper.now.forest = c.write_metric.ensures.forest in
+    rw same (let stops = c.in_err-write_metric.ensures.stops in search rules)

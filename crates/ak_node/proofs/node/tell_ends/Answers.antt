@@ -21,15 +21,15 @@ pub returns-in_err-tell_end-clause-leaves : goal.returns-in_err-tell_end-clause-
 returns-in_err-tell_end-clause-leaves g c told disk left = c.loop-session.invariant.leaves told disk (c.tell_end.ensures.leaves told disk left)
 
 pub returns-in_err-tell_end-clause-stops : goal.returns-in_err-tell_end-clause-stops
-returns-in_err-tell_end-clause-stops g c content =
-    let stops = stops_on _ _ _ _ _ _ _ (c.loop-session.invariant.stops content) (c.in_err-tell_end.ensures.stops content) in
+returns-in_err-tell_end-clause-stops g c was now =
+    let stops = stops_on _ _ _ _ _ _ _ _ _ (c.loop-session.invariant.stops was now) (c.in_err-tell_end.ensures.stops was now) in
     search rules
 
 pub loop-session-preserved : goal.loop-session-preserved
 loop-session-preserved g c =
     let some = some_port c.args.sessions.now c.loop-session.session-index c.session-item.result c.requires c.loop-session-test.true c.session-item.is in
     record {
-      stops = λ content. stops_on _ _ _ _ _ _ _ (c.loop-session.invariant.stops content) (c.in_ok-tell_end.ensures.stops content);
+      stops = λ was now. stops_on _ _ _ _ _ _ _ _ _ (c.loop-session.invariant.stops was now) (c.in_ok-tell_end.ensures.stops was now);
       silent = λ told. c.tell_end.ensures.silent told some ∙ c.loop-session.invariant.silent told;
       reads = λ told. c.tell_end.ensures.reads told ∙ c.loop-session.invariant.reads told;
       files = λ told. c.tell_end.ensures.files told ∙ c.loop-session.invariant.files told;

@@ -110,13 +110,13 @@ added (Err e) is old new names value good forest = absurd (false≢true (sym goo
 pub returns-in_err-accept_all-clause-stops : goal.returns-in_err-accept_all-clause-stops
 returns-in_err-accept_all-clause-stops g c =
     let named = added c.add_names.result c.is_err.result c.args.keeper.now c.add_names.new.keeper c.args.names.now c.is_err.ensures.value c.if-is_err.false c.add_names.ensures.forest in
-    let stops = stops_of _ _ _ _ _ _ named c.in_err-accept_all.ensures.stops in
+    let stops = stops_of _ _ _ _ _ _ _ named c.in_err-accept_all.ensures.stops in
     search rules
 
 pub returns-clause-stops : goal.returns-clause-stops
 returns-clause-stops g c =
     let named = added c.add_names.result c.is_err.result c.args.keeper.now c.add_names.new.keeper c.args.names.now c.is_err.ensures.value c.if-is_err.false c.add_names.ensures.forest in
-    let stops = stops_of _ _ _ _ _ _ named c.in_ok-accept_all.ensures.stops in
+    let stops = stops_of _ _ _ _ _ _ _ named c.in_ok-accept_all.ensures.stops in
     search rules
 
 pub returns-clause-becomes : goal.returns-clause-becomes

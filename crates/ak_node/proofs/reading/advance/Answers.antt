@@ -74,14 +74,14 @@ returns-then-session-clause-last g c told begun at _ =
     after_kept begun c.args.piece.now c.args.keeper.now c.args.session.now c.args.at.now c.feed.new.at before host at c.feed.new.self c.in-Err-Refused.field-0 c.in-Err-Refused.ensures.kept c.if-session.true
 
 pub returns-in_err-refuse-in-Err-Refused-clause-stops : goal.returns-in_err-refuse-in-Err-Refused-clause-stops
-returns-in_err-refuse-in-Err-Refused-clause-stops g c = let stops = c.in_err-refuse-in-Err-Refused.ensures.stops c.args.keeper.now.forest.meta in search rules
+returns-in_err-refuse-in-Err-Refused-clause-stops g c = let stops = c.in_err-refuse-in-Err-Refused.ensures.stops c.args.keeper.now.forest.meta c.args.keeper.now.forest.meta in search rules
 
 pub returns-in_ok-refuse-in-Err-Refused-clause-stops : goal.returns-in_ok-refuse-in-Err-Refused-clause-stops
-returns-in_ok-refuse-in-Err-Refused-clause-stops g c = let stops = c.in_ok-refuse-in-Err-Refused.ensures.stops c.args.keeper.now.forest.meta in search rules
+returns-in_ok-refuse-in-Err-Refused-clause-stops g c = let stops = c.in_ok-refuse-in-Err-Refused.ensures.stops c.args.keeper.now.forest.meta c.args.keeper.now.forest.meta in search rules
 
 pub returns-in_ok-refuse-in-Err-Refused-clause-ready : goal.returns-in_ok-refuse-in-Err-Refused-clause-ready
 returns-in_ok-refuse-in-Err-Refused-clause-ready g c =
-    ready_after_ports g.H.Outside.tells c.args.keeper.now (g.H.Outside.state c.args.host.now) (g.H.Outside.state c.refuse.new.host) c.requires.ready (c.refuse.ensures.stops c.args.keeper.now.forest.meta).sizes
+    ready_after_ports g.H.Outside.tells c.args.keeper.now (g.H.Outside.state c.args.host.now) (g.H.Outside.state c.refuse.new.host) c.requires.ready (c.refuse.ensures.stops c.args.keeper.now.forest.meta c.args.keeper.now.forest.meta).sizes
     c.refuse.ensures.files (λ told. ports_leave (c.refuse.ensures.moments told))
 
 pub returns-in_err-refuse-in-Err-Refused-clause-moments : goal.returns-in_err-refuse-in-Err-Refused-clause-moments

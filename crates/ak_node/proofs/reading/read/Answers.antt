@@ -49,8 +49,8 @@ returns-in_err-advance-clause-stops g c =
     let old = g.H.Outside.state c.args.host.now in
     let mid = g.H.Outside.state c.loop.host in
     let new = g.H.Outside.state c.advance.new.host in
-    let ended = stops_of g.H.Outside.tells c.args.keeper.now.forest.meta c.loop.keeper.forest.meta mid new _ before.becomes c.in_err-advance.ensures.stops in
-    let stops = stops_behind g.H.Outside.tells c.args.keeper.now.forest.meta old mid new _ before.disk_later before.port_later before.sizes ended in
+    let ended = stops_of g.H.Outside.tells c.args.keeper.now.forest.meta c.loop.keeper.forest.meta c.advance.new.keeper.forest.meta mid new _ before.becomes c.in_err-advance.ensures.stops in
+    let stops = stops_behind g.H.Outside.tells c.args.keeper.now.forest.meta c.advance.new.keeper.forest.meta old mid new _ before.disk_later before.port_later before.sizes ended in
     search rules
 
 pub returns-then-not-branch-clause-stops : goal.returns-then-not-branch-clause-stops
@@ -59,8 +59,8 @@ returns-then-not-branch-clause-stops g c =
     let old = g.H.Outside.state c.args.host.now in
     let mid = g.H.Outside.state c.loop.host in
     let new = g.H.Outside.state c.advance.new.host in
-    let ended = stops_of g.H.Outside.tells c.args.keeper.now.forest.meta c.loop.keeper.forest.meta mid new _ before.becomes c.in_ok-advance.ensures.stops in
-    let stops = stops_behind g.H.Outside.tells c.args.keeper.now.forest.meta old mid new _ before.disk_later before.port_later before.sizes ended in
+    let ended = stops_of g.H.Outside.tells c.args.keeper.now.forest.meta c.loop.keeper.forest.meta c.advance.new.keeper.forest.meta mid new _ before.becomes c.in_ok-advance.ensures.stops in
+    let stops = stops_behind g.H.Outside.tells c.args.keeper.now.forest.meta c.advance.new.keeper.forest.meta old mid new _ before.disk_later before.port_later before.sizes ended in
     search rules
 
 pub returns-then-not-branch-clause-becomes : goal.returns-then-not-branch-clause-becomes

@@ -112,14 +112,18 @@ returns-in-Err-clause-cause g c =
     let stops = c.in-Err.ensures.stops in
     let before = c.loop-turn.invariant in
     let was = c.args.node.keeper.forest.meta in
+    let now = c.take_turn.new.node.keeper.forest.meta in
     let old = g.H.Outside.state c.args.host.now in
     let mid = g.H.Outside.state c.loop-turn.host in
     let new = g.H.Outside.state c.take_turn.new.host in
     record {
       disk_later = omega (arith, stops.disk_later, before.disk_later);
       port_later = omega (arith, stops.port_later, before.port_later);
-      stops = inl (node_later g.H.Outside.tells was old mid new c.in-Err.stop before.disk_later before.port_later
-          (stop_of g.H.Outside.tells was c.loop-turn.node.keeper.forest.meta mid new c.in-Err.stop before.becomes stops.stops));
+      stops = inl (
+        now,
+        node_later g.H.Outside.tells was now old mid new c.in-Err.stop before.disk_later before.port_later
+            (stop_of g.H.Outside.tells was c.loop-turn.node.keeper.forest.meta now mid new c.in-Err.stop before.becomes stops.stops),
+      );
     }
 
 pub returns-in-Err-clause-sound : goal.returns-in-Err-clause-sound

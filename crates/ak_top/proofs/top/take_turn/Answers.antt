@@ -58,14 +58,14 @@ returns-in_ok-finish-in-Done-clause-moments g c told world stands =
 
 pub returns-in_err-finish-in-Done-clause-stops : goal.returns-in_err-finish-in-Done-clause-stops
 returns-in_err-finish-in-Done-clause-stops g c =
-    let ended = stops_of _ _ _ _ _ _ c.in_ok-turn.ensures.becomes (c.in_err-finish-in-Done.ensures.stops (c.in_ok-turn.ensures.fresh)) in
-    let stops = stops_on _ _ _ _ _ _ _ (c.in_ok-turn.ensures.stops c.requires.free) ended in
+    let ended = stops_of _ _ _ _ _ _ _ c.in_ok-turn.ensures.becomes (c.in_err-finish-in-Done.ensures.stops (c.in_ok-turn.ensures.fresh)) in
+    let stops = stops_on _ _ _ _ _ _ _ _ _ (c.in_ok-turn.ensures.stops c.requires.free) ended in
     search rules
 
 pub returns-in_ok-finish-in-Done-clause-stops : goal.returns-in_ok-finish-in-Done-clause-stops
 returns-in_ok-finish-in-Done-clause-stops g c =
-    let ended = stops_of _ _ _ _ _ _ c.in_ok-turn.ensures.becomes (c.in_ok-finish-in-Done.ensures.stops (c.in_ok-turn.ensures.fresh)) in
-    let stops = stops_on _ _ _ _ _ _ _ (c.in_ok-turn.ensures.stops c.requires.free) ended in
+    let ended = stops_of _ _ _ _ _ _ _ c.in_ok-turn.ensures.becomes (c.in_ok-finish-in-Done.ensures.stops (c.in_ok-turn.ensures.fresh)) in
+    let stops = stops_on _ _ _ _ _ _ _ _ _ (c.in_ok-turn.ensures.stops c.requires.free) ended in
     search rules
 
 pub returns-in_ok-finish-in-Done-clause-becomes : goal.returns-in_ok-finish-in-Done-clause-becomes

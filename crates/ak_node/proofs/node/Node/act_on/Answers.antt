@@ -10,7 +10,7 @@ pub returns-in-Idle-clause-after : goal.returns-in-Idle-clause-after
 returns-in-Idle-clause-after g c told world stands = rw c.in-Idle.is (quiet_after world _ idle _ (g.H.Outside.state c.args.host.now) (no_idle world stands.holds.keeps.not_worn) stands)
 
 pub returns-in-End-clause-stops : goal.returns-in-End-clause-stops
-returns-in-End-clause-stops g c = c.end.ensures.stops c.args.self.now.keeper.forest.meta
+returns-in-End-clause-stops g c = c.end.ensures.stops c.args.self.now.keeper.forest.meta c.end.new.self.keeper.forest.meta
 
 pub returns-in-End-clause-becomes : goal.returns-in-End-clause-becomes
 returns-in-End-clause-becomes g c = ok_is c.end.result (becomes_it _ _ (ap (λ (k : Keeper). k.forest.meta) c.end.ensures.keeper))

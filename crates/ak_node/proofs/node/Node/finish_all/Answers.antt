@@ -14,7 +14,7 @@ use Rattle.ak_node.proofs.Turns.{done_in_act, done_leaves_act, done_after_act, d
 use Rattle.ak_node.proofs.node.Node.finish_all.Goals as goal
 
 pub returns-in_err-tell_ends-clause-stops : goal.returns-in_err-tell_ends-clause-stops
-returns-in_err-tell_ends-clause-stops g c = let stops = c.in_err-tell_ends.ensures.stops c.args.self.now.keeper.forest.meta in search rules
+returns-in_err-tell_ends-clause-stops g c = let stops = c.in_err-tell_ends.ensures.stops c.args.self.now.keeper.forest.meta c.args.self.now.keeper.forest.meta in search rules
 
 pub returns-in_err-tell_ends-clause-moments : goal.returns-in_err-tell_ends-clause-moments
 returns-in_err-tell_ends-clause-moments g c told world stands =
@@ -27,10 +27,10 @@ returns-in_err-tell_ends-clause-moments g c told world stands =
 
 pub flush-requires : goal.flush-requires
 flush-requires g c =
-    record { ready = ready_after_ports g.H.Outside.tells c.args.self.now.keeper (g.H.Outside.state c.args.host.now) (g.H.Outside.state c.tell_ends.new.host) c.requires.ready.ready (c.tell_ends.ensures.stops c.args.self.now.keeper.forest.meta).sizes c.tell_ends.ensures.files c.tell_ends.ensures.leaves }
+    record { ready = ready_after_ports g.H.Outside.tells c.args.self.now.keeper (g.H.Outside.state c.args.host.now) (g.H.Outside.state c.tell_ends.new.host) c.requires.ready.ready (c.tell_ends.ensures.stops c.args.self.now.keeper.forest.meta c.args.self.now.keeper.forest.meta).sizes c.tell_ends.ensures.files c.tell_ends.ensures.leaves }
 
 pub returns-clause-stops : goal.returns-clause-stops
-returns-clause-stops g c = stops_on _ _ _ _ _ _ c.flush.result (c.in_ok-tell_ends.ensures.stops c.args.self.now.keeper.forest.meta) c.flush.ensures.stops
+returns-clause-stops g c = stops_on _ _ _ _ _ _ _ _ c.flush.result (c.in_ok-tell_ends.ensures.stops c.args.self.now.keeper.forest.meta c.args.self.now.keeper.forest.meta) c.flush.ensures.stops
 
 pub returns-clause-worn : goal.returns-clause-worn
 returns-clause-worn g c told world stands =

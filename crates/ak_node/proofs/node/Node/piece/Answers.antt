@@ -66,13 +66,13 @@ returns-in-Ok-Some-clause-moments g c told world stands =
     (λ mark disk p left. piece_leaves_act world c.args.port c.args.bytes.now c.requires.port stands.holds.keeps.not_worn opened.0 x (mark_now host) s.1 mark disk left)
 
 pub returns-in-Ok-None-clause-stops : goal.returns-in-Ok-None-clause-stops
-returns-in-Ok-None-clause-stops g c = c.refuse.ensures.stops c.args.self.now.keeper.forest.meta
+returns-in-Ok-None-clause-stops g c = c.refuse.ensures.stops c.args.self.now.keeper.forest.meta c.args.self.now.keeper.forest.meta
 
 pub returns-in-Ok-None-clause-ready : goal.returns-in-Ok-None-clause-ready
 returns-in-Ok-None-clause-ready g c =
     ok_is c.refuse.result (record {
       ready = ready_after_ports g.H.Outside.tells c.args.self.now.keeper (g.H.Outside.state c.args.host.now) (g.H.Outside.state c.refuse.new.host) c.requires.ready.ready
-          (c.refuse.ensures.stops c.args.self.now.keeper.forest.meta).sizes c.refuse.ensures.files (λ told. ports_leave (c.refuse.ensures.moments told));
+          (c.refuse.ensures.stops c.args.self.now.keeper.forest.meta c.args.self.now.keeper.forest.meta).sizes c.refuse.ensures.files (λ told. ports_leave (c.refuse.ensures.moments told));
       ports = c.in-Ok-None.ensures.ports;
     })
 
