@@ -1,3 +1,4 @@
+pub mod Folded
 pub mod Joins
 pub mod Merges
 pub mod Orders

@@ -6,7 +6,9 @@ mod laws;
 mod summary;
 
 pub use fold::{Fold, value_of};
-pub use laws::{one_summary, summaries_keep_rules};
+pub use laws::{
+    computed_summary, joins_associate, joins_summarize, one_summary, summaries_keep_rules,
+};
 pub use summary::Summary;
 
 #[cfg(test)]

@@ -67,4 +67,7 @@ fn merged_by_time(rt: HostRuntime) {
 fn laws_are_called() {
     one_summary();
     summaries_keep_rules();
+    joins_associate();
+    joins_summarize();
+    computed_summary();
 }
