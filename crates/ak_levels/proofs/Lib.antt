@@ -1,2 +1,9 @@
+pub mod Joined
+pub mod Lawful
+pub mod Lifts
 pub mod Powers
 pub mod Lists
+pub mod Digits
+pub mod Closed
+pub mod Leaves
+pub mod Ordered

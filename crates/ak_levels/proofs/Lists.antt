@@ -77,12 +77,12 @@ pub placed_lists : (v : Lists) (n : ℕ) → n ≤ length v.placed → AreLists 
 placed_lists v n h are = record { levels = are.levels; places = length_placed n v.placed h ∙ are.places; most = are.most }
 
 -- a level that gets places has them, and the others keep theirs
-has_places : (n : ℕ) (bs : List Bool) (k : ℕ) → k < n → get_or (replicate n true ++ bs) k false ≡ true
+pub has_places : (n : ℕ) (bs : List Bool) (k : ℕ) → k < n → get_or (replicate n true ++ bs) k false ≡ true
 has_places zero bs k h = absurd (omega arith)
 has_places (suc n) bs zero h = refl
 has_places (suc n) bs (suc k) h = has_places n bs k (omega arith)
 
-keeps_places : (n : ℕ) (bs : List Bool) (k : ℕ) → get_or bs k false ≡ true → get_or (replicate n true ++ drop n bs) k false ≡ true
+pub keeps_places : (n : ℕ) (bs : List Bool) (k : ℕ) → get_or bs k false ≡ true → get_or (replicate n true ++ drop n bs) k false ≡ true
 keeps_places zero bs k h = h
 keeps_places (suc n) [] zero h = absurd (not_true h)
 keeps_places (suc n) [] (suc k) h = absurd (not_true h)

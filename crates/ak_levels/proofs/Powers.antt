@@ -6,11 +6,11 @@ use Rattle.std.proofs.lemmas.Bool.{cases_lt, cases_eq}
 use Rattle.std.proofs.lemmas.Bool.Decides.{nat_tests}
 use Rattle.ak_levels.specs.Carries.{dividing_powers, carry_of}
 
-power_pos : (k : ℕ) → 0 < 32 ^ k
+pub power_pos : (k : ℕ) → 0 < 32 ^ k
 power_pos zero = omega (arith, pow-zero 32)
 power_pos (suc k) = omega (arith, pow-suc 32 k, power_pos k)
 
-power_up : (k q : ℕ) → q * 32 ^ suc k ≡ q * 32 * 32 ^ k
+pub power_up : (k q : ℕ) → q * 32 ^ suc k ≡ q * 32 * 32 ^ k
 power_up k q = ap (λ (x : ℕ). q * x) (pow-suc 32 k ∙ mul_comm (32 ^ k) 32) ∙ sym (mul_assoc q 32 (32 ^ k))
 
 -- where a power divides, the one below it does

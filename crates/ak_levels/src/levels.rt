@@ -1,5 +1,5 @@
 //! The references that wait at each level.
-ghost use Rattle.std.specs.Prelude.{◌≡◌, ℕ, ◌+◌, ◌^◌, ◌<◌, ◌≤◌, ◌++◌, ◌∷◌, [], length, IfOk, IfErr};
+ghost use Rattle.std.specs.Prelude.{◌≡◌, ℕ, ◌+◌, ◌^◌, ◌<◌, ◌≤◌, true, false, ◌++◌, ◌∷◌, [], length, IfOk, IfErr, slice_index_or};
 ghost use Rattle.ak_levels.specs.Carries.{carry_of};
 ghost use Rattle.ak_levels.specs.Pending.{AreLists, HasRoom, no_lists, pending_at, with_pending, with_places};
 
@@ -7,6 +7,9 @@ use crate::carries::carry;
 use ak_inner::{Inner, Ref};
 use std::alloc::{AllocError, Global};
 use std::marker::Model;
+
+/// How many levels there are.
+const LEVELS: u32 = 11;
 
 /// The references that wait at each of 11 levels, seen as their lists and which of them have places. A level's 32
 /// places are taken at once, and kept.
@@ -47,8 +50,19 @@ impl Levels {
         ensures kept { (k : ℕ) → HasRoom self.old k → HasRoom self.new k }
         ensures pending { self.new.pending ≡ self.old.pending }
         ensures error { IfErr result (λ _. self.new ≡ self.old) }
+        ensures needed { IfErr result (λ _. ((k : ℕ) → k ≤ carry_of m → slice_index_or self.old.placed k false ≡ true) → ⊥) }
     {
         self.place(alloc, carry(m) + 1)
+    }
+
+    /// Takes places for each level of which a node was ever made in a series of so many leaves and that has none. On an
+    /// error nothing changes.
+    pub fn prepare(&mut self, alloc: Global, leaves: u64) -> Result<(), AllocError>
+        ensures places { IfOk result (λ _. (k : ℕ) → k ≤ 10 → 32 ^ k ≤ leaves → slice_index_or self.new.placed k false ≡ true) }
+        ensures pending { self.new.pending ≡ self.old.pending }
+        ensures error { IfErr result (λ _. self.new ≡ self.old) }
+    {
+        self.place(alloc, levels_in(leaves))
     }
 
     /// Puts a reference behind those that wait at the level.
@@ -95,6 +109,7 @@ impl Levels {
         requires { count ≤ 11 }
         ensures places { IfOk result (λ _. self.new ≡ with_places self.old count) }
         ensures error { IfErr result (λ _. self.new ≡ self.old) }
+        ensures needed { IfErr result (λ _. ((k : ℕ) → k < count → slice_index_or self.old.placed k false ≡ true) → ⊥) }
     {
         if count == 0 {
             return Ok(());
@@ -108,4 +123,18 @@ impl Levels {
         self.levels[top] = Some(places);
         Ok(())
     }
+}
+
+/// How many levels from 0 on have a node in a series of so many leaves.
+fn levels_in(leaves: u64) -> u32
+    ensures most { result ≤ 11 }
+    ensures each { (k : ℕ) → k ≤ 10 → 32 ^ k ≤ leaves → k < result }
+{
+    let mut left = leaves;
+    let mut levels = 0;
+    while levels < LEVELS && left > 0 {
+        left /= 32;
+        levels += 1;
+    }
+    levels
 }
