@@ -58,6 +58,12 @@ times_one fan j = rw (pow-zero fan) (omega arith)
 pub power_up : (fan k m : ℕ) → m * fan ^ suc k ≡ m * fan * fan ^ k
 power_up fan k m = ap (λ (x : ℕ). m * x) (pow-suc fan k ∙ mul_comm (fan ^ k) fan) ∙ sym (mul_assoc m fan (fan ^ k))
 
+-- the references of a node end where it does
+pub family_stop : (fan k j n : ℕ) → n ≤ fan → ((suc j * fan - n) + n) * fan ^ k ≡ end fan (suc k) j
+family_stop fan k j n most =
+    let all : (suc j * fan - n) + n ≡ suc j * fan = omega (arith, most, suc-mul j fan) in
+    ap (λ (x : ℕ). x * fan ^ k) all ∙ sym (power_up fan k (suc j))
+
 -- where the references of a node leave children out, these are dead
 pub start_same : (low fan k j n : ℕ) → n ≤ fan → n ≤ suc j * fan → (n < fan → (suc j * fan - n) * fan ^ k ≤ low) → max low ((suc j * fan - n) * fan ^ k) ≡ max low (j * fan ^ suc k)
 start_same low fan k j n most size missing = elim (cases_lt n fan) [

@@ -4,7 +4,8 @@ use Rattle.std.proofs.lemmas.Bool.{cases_eq}
 use Rattle.std.proofs.lemmas.Bool.Decides.{nat_tests}
 use Rattle.std.proofs.lemmas.List.{map-append}
 use Rattle.ak_forest.specs.Numbers.{made, between, carry}
-use Rattle.ak_forest.specs.Tree.{Elder, found_in, Seen, Node, Reference, IsGrown, IsClose, Takes, Waits, pending, found, width}
+use Rattle.ak_forest.specs.Tree.{Elder, found_in, Seen, Node, Reference, IsGrown, IsClose, Takes, Waits, pending, found, width, reads_of}
+use Rattle.ak_summary.specs.declared.summary.Summary.{Summary}
 use Rattle.ak_forest.specs.Image.{Volumes, live, seen_of, leaf_here, row, scan_from, scan_of}
 use Rattle.ak_forest.specs.Forest.{Kept, IsPlanted, IsForest, Closed, Turned, Opened, Stands, Widened, Born, Added, IsEmpty, takes, part, Computed}
 use Rattle.ak_forest.proofs.Arith.{made_none, fan_pos, between_append, between_one}
@@ -66,12 +67,13 @@ closed fan count series value join kept kept' lo n front spells spells' fresh no
         let later = seen_of w spells' in
         let home' : ℕ → ℕ = home_after p.home m at in
         let fits : p.low + (m - p.low) ≤ m = omega (arith, p.grown.tree.fits) in
-        let close : IsClose fan series m at value (kept series).base join p.home home' (kept series).rescue (kept' series).rescue (kept series).total (kept' series).total seen later (kept series).waiting (kept' series).waiting fresh nodes = record {
+        let close : IsClose fan series m at value p.low join p.home home' (kept series).rescue (kept' series).rescue (kept series).total (kept' series).total (reads_of seen) (reads_of later) (kept series).waiting (kept' series).waiting fresh nodes = record {
           here = home_here p.home m at;
           same = home_before p.home m at;
           worth = step.worth;
           same_total = step.same_total;
-          adds = step.adds;
+          adds = λ i j k from. step.adds i j k (omega (arith, p.grown.older, from));
+          ends = step.ends;
           keeps = keeps lo n c front spells spells' nodes wrote.room wrote.agrees wrote.wrote;
           written = written lo n c front spells spells' nodes wrote.room wrote.agrees wrote.wrote;
           parts = step.parts;
@@ -81,7 +83,7 @@ closed fan count series value join kept kept' lo n front spells spells' fresh no
           grown = step.pushed;
           old_levels = step.old_levels;
         } in
-        let after = grown_placed fan lo series p.low m at value (kept series).base join p.home home' (kept series).rescue (kept' series).rescue (kept series).total (kept' series).total seen later
+        let after = grown_placed fan lo series p.low m at value (kept series).base join p.home home' (kept series).rescue (kept' series).rescue (kept series).total (kept' series).total (reads_of seen) (reads_of later)
         (kept series).waiting (kept' series).waiting fresh nodes two (subst (λ (x : ℕ). x < fan ^ 11) step.one_more few) p.grown close in
         record {
           few = few;
@@ -93,7 +95,7 @@ closed fan count series value join kept kept' lo n front spells spells' fresh no
               ∙ sym (map-append home' (between p.low m) (m ∷ []))
               ∙ ap (map home') (ap (λ (l : List ℕ). between p.low m ++ l) (sym (between_one m)) ∙ between_append p.low m (suc m) p.grown.tree.fits (omega arith))
               ∙ ap (λ (x : ℕ). map home' (between p.low x)) (sym step.one_more);
-          grown = subst₂ (λ (l b : ℕ). IsGrown fan lo series p.low l home' (kept' series).total (kept' series).rescue later b (kept' series).waiting) (sym step.one_more) (sym step.same_base) after;
+          grown = subst₂ (λ (l b : ℕ). IsGrown fan lo series p.low l home' (kept' series).total (kept' series).rescue (reads_of later) b (kept' series).waiting) (sym step.one_more) (sym step.same_base) after;
         }
 
     beside : (s : ℕ) → series ≢ s
@@ -114,7 +116,7 @@ closed fan count series value join kept kept' lo n front spells spells' fresh no
           home = p.home;
           scanned = scan_placed lo n c front spells spells' nodes wrote.room wrote.agrees wrote.wrote fan series m refl parts s small
               ∙ ap₂ (λ (l : List ℕ) (b : Bool). l ++ (if b then at ∷ [] else [])) p.scanned (other_test series s differs) ∙ append-nil (map p.home (between p.low (kept s).leaves));
-          grown = grown_kept fan lo s p.low (kept s).leaves (kept s).base p.home (kept s).rescue (kept s).total seen (seen_of w spells') (kept s).waiting
+          grown = grown_kept fan lo s p.low (kept s).leaves (kept s).base p.home (kept s).rescue (kept s).total (reads_of seen) (reads_of (seen_of w spells')) (kept s).waiting
               (keeps lo n c front spells spells' nodes wrote.room wrote.agrees wrote.wrote) p.grown;
         }
 
@@ -144,9 +146,9 @@ widened fan count kept lo fills spells forest =
       };
     }
 
-planted_opened : (fan : ℕ) (v : Volumes) (seen : Seen) (series leaves base : ℕ) (rescue : ℕ → ℕ) (total : ℕ → ℕ → ℕ) (waiting : ℕ → List Reference) (k : Kept)
+planted_opened : (fan : ℕ) (v : Volumes) (seen : Seen) (series leaves base : ℕ) (rescue : ℕ → ℕ) (total : ℕ → ℕ → Summary) (waiting : ℕ → List Reference) (k : Kept)
     → k.leaves ≡ leaves → k.base ≡ base → k.rescue ≡ rescue → k.total ≡ total → k.waiting ≡ waiting → leaves < fan ^ 11
-    → (low : ℕ) (home : ℕ → ℕ) → scan_of v seen series ≡ map home (between low leaves) → IsGrown fan v.lo series low leaves home total rescue seen base waiting
+    → (low : ℕ) (home : ℕ → ℕ) → scan_of v seen series ≡ map home (between low leaves) → IsGrown fan v.lo series low leaves home total rescue (reads_of seen) base waiting
     → IsPlanted fan v seen series k
 planted_opened fan v seen series leaves base rescue total waiting k l b r t w few low home scanned grown =
     let same : record { leaves = leaves; base = base; rescue = rescue; waiting = waiting; total = total } ≡ k =
@@ -169,7 +171,7 @@ planted_opened fan v seen series leaves base rescue total waiting k l b r t w fe
     w' = sym w
 
 pub opened_all : Opened
-opened_all fan count join leaves rescue total kept v spells two few sound adds is = record {
+opened_all fan count join leaves rescue total kept v spells two ends few sound adds is = record {
   small = sound.small;
   spelled = sound.spelled;
   whole = sound.whole;
@@ -179,7 +181,7 @@ opened_all fan count join leaves rescue total kept v spells two few sound adds i
       let seen = seen_of v spells in
       planted_opened fan v seen series (leaves series) s.low (rescue series) (total series) (λ l. map (found join seen l) (pending fan seen (leaves series) (rescue series) l)) (kept series)
       o.same_leaves o.from o.same_points o.same_total o.waits (few series h) s.low s.home s.scanned
-      (opened fan v.lo series s.low (leaves series) s.home (rescue series) (total series) join seen two (blind v spells sound.small) s.tree (adds series h));
+      (opened fan v.lo series s.low (leaves series) s.home (rescue series) (total series) join seen two (blind v spells sound.small) s.tree ends (adds series h));
 }
 
 pub born : Born
@@ -207,7 +209,7 @@ born fan kept spells =
     none_below at h = omega (arith, h, zero_at (at / width - 0))
 
 pub computed : Computed
-computed join fan series at value total old worth same adds =
+computed join fan series at value total old ends worth same adds =
     let c = carry fan old.leaves in
     record {
       one_more = refl;
@@ -221,6 +223,7 @@ computed join fan series at value total old worth same adds =
       worth = worth;
       same_total = same;
       adds = adds;
+      ends = ends;
     }
   where
     le_yes : (a b : ℕ) → a ≤ b → nat_le a b ≡ true

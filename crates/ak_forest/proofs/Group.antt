@@ -4,7 +4,8 @@ use Rattle.std.proofs.lemmas.Bool.{cases_lt, cases_eq}
 use Rattle.std.proofs.lemmas.Bool.Decides.{nat_tests}
 use Rattle.std.proofs.lemmas.List.{map-append}
 use Rattle.ak_forest.specs.Numbers.{made, span, between, carry}
-use Rattle.ak_forest.specs.Tree.{Seen, Node, Reference, IsGrown, IsClose, width}
+use Rattle.ak_forest.specs.Tree.{Seen, Node, Reference, IsGrown, IsClose, width, reads_of}
+use Rattle.ak_summary.specs.declared.summary.Summary.{Summary}
 use Rattle.ak_forest.specs.Image.{Volumes, live, seen_of, leaf_here, row, scan_from, scan_of, Holds, IsWhole, IsSeries}
 use Rattle.ak_forest.proofs.Arith.{between_append, between_one, made_zero}
 use Rattle.ak_forest.proofs.Place.{grown_placed}
@@ -260,11 +261,11 @@ module _ (lo n c : ℕ) (front : List ℕ) (spells spells' : Seen) (nodes : ℕ 
         ∙ ap (λ (l : List ℕ). l ++ (if series == s then at ∷ [] else [])) (sym (scan_append (seen_of old spells) s lo front n))
 
     -- the series that is closed, and each other one
-    pub series_placed : (value base : ℕ) (join : ℕ → ℕ → ℕ) (total total' : ℕ → ℕ → ℕ) (rescue rescue' : ℕ → ℕ) (waiting waiting' : ℕ → List Reference) (fresh : ℕ → Reference)
+    pub series_placed : (value : Summary) (base : ℕ) (join : Summary → Summary → Summary) (total total' : ℕ → ℕ → Summary) (rescue rescue' : ℕ → ℕ) (waiting waiting' : ℕ → List Reference) (fresh : ℕ → Reference)
         → 1 < fan → suc m < fan ^ 11 → ((i : ℕ) → get_or front i 0 ≤ width)
         → (s : IsSeries fan old (seen_of old spells) series m total rescue) (home' : ℕ → ℕ)
-        → IsGrown fan lo series s.low m s.home total rescue (seen_of old spells) base waiting
-        → IsClose fan series m at value base join s.home home' rescue rescue' total total' (seen_of old spells) (seen_of new spells') waiting waiting' fresh nodes
+        → IsGrown fan lo series s.low m s.home total rescue (reads_of (seen_of old spells)) base waiting
+        → IsClose fan series m at value s.low join s.home home' rescue rescue' total total' (reads_of (seen_of old spells)) (reads_of (seen_of new spells')) waiting waiting' fresh nodes
         → IsSeries fan new (seen_of new spells') series (suc m) total' rescue'
     series_placed value base join total total' rescue rescue' waiting waiting' fresh two few small s home' grown step =
         let here : (series == series) ≡ true = same_test series in
@@ -277,10 +278,10 @@ module _ (lo n c : ℕ) (front : List ℕ) (spells spells' : Seen) (nodes : ℕ 
               ∙ ap (λ (x : ℕ). map home' (between s.low m) ++ x ∷ []) (sym step.here)
               ∙ sym (map-append home' (between s.low m) (m ∷ []))
               ∙ ap (map home') (ap (λ (l : List ℕ). between s.low m ++ l) (sym (between_one m)) ∙ between_append s.low m (suc m) s.tree.fits (omega arith));
-          tree = (grown_placed fan lo series s.low m at value base join s.home home' rescue rescue' total total' (seen_of old spells) (seen_of new spells') waiting waiting' fresh nodes two few grown step).tree;
+          tree = (grown_placed fan lo series s.low m at value base join s.home home' rescue rescue' total total' (reads_of (seen_of old spells)) (reads_of (seen_of new spells')) waiting waiting' fresh nodes two few grown step).tree;
         }
 
-    pub series_beside : (other leaves : ℕ) (total : ℕ → ℕ → ℕ) (rescue : ℕ → ℕ) → ((i : ℕ) → get_or front i 0 ≤ width) → series ≢ other
+    pub series_beside : (other leaves : ℕ) (total : ℕ → ℕ → Summary) (rescue : ℕ → ℕ) → ((i : ℕ) → get_or front i 0 ≤ width) → series ≢ other
         → IsSeries fan old (seen_of old spells) other leaves total rescue → IsSeries fan new (seen_of new spells') other leaves total rescue
     series_beside other leaves total rescue small differs s =
         let not_here : (series == other) ≡ false = other_test series other differs in
@@ -288,7 +289,7 @@ module _ (lo n c : ℕ) (front : List ℕ) (spells spells' : Seen) (nodes : ℕ 
           low = s.low;
           home = s.home;
           scanned = scan_placed other small ∙ ap₂ (λ (l : List ℕ) (b : Bool). l ++ (if b then at ∷ [] else [])) s.scanned not_here ∙ append-nil (map s.home (between s.low leaves));
-          tree = tree_kept fan lo other s.low leaves s.home rescue total (seen_of old spells) (seen_of new spells') keeps s.tree;
+          tree = tree_kept fan lo other s.low leaves s.home rescue total (reads_of (seen_of old spells)) (reads_of (seen_of new spells')) keeps s.tree;
         }
 
     pub spelled_placed : (count : ℕ) → series < count

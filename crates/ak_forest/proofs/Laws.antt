@@ -4,6 +4,7 @@ use Rattle.std.proofs.lemmas.Bool.{cases_lt, cases_eq}
 use Rattle.std.proofs.lemmas.Bool.Decides.{nat_tests}
 use Rattle.ak_forest.specs.Numbers.{made, digit, end, between, carry, waiting}
 use Rattle.ak_forest.specs.Tree.{Seen, IsBlind, spot, width, none}
+use Rattle.ak_summary.specs.declared.summary.Summary.{Summary}
 use Rattle.ak_forest.specs.Image.{Volumes, live, seen_of, IsSeries}
 use Rattle.ak_forest.specs.Laws.{Agree, Rescued, Found, DeadBelow, Switched, Placed, Carried}
 use Rattle.ak_forest.proofs.Arith.{made_suc, made_split, made_mono, between_one, between_append}
@@ -94,7 +95,7 @@ placed fan count series value base join leaves leaves' rescue rescue' total tota
             (series_placed lo n c front spells spells' nodes written.room written.agrees written.wrote fan series m refl parts value base join (total series) (total' series) (rescue series) (rescue' series)
             waiting waiting' fresh two few small (sound.each series known) home' grown step))
         | inr differs ↦
-            subst₂ (λ (l : ℕ) (t : ℕ → ℕ → ℕ). IsSeries fan v (seen_of v spells') s l t (rescue' s)) (changed.same_leaves s differs) (changed.same_total s differs)
+            subst₂ (λ (l : ℕ) (t : ℕ → ℕ → Summary). IsSeries fan v (seen_of v spells') s l t (rescue' s)) (changed.same_leaves s differs) (changed.same_total s differs)
             (subst (λ (r : ℕ → ℕ). IsSeries fan v (seen_of v spells') s (leaves s) (total s) r) (changed.same_points s differs)
             (series_beside lo n c front spells spells' nodes written.room written.agrees written.wrote fan series m refl parts s (leaves s) (total s) (rescue s) small differs (sound.each s h)))
       ];

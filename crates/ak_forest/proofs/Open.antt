@@ -1,30 +1,32 @@
 -- What an opening rebuilds is what the invariant asks, and a step of another series keeps it.
 use Rattle.std.proofs.Common.{◌≡◌, inl, ℕ, zero, suc, pred, ◌+◌, ◌-◌, ◌*◌, ◌^◌, ◌<◌, ◌≤◌, max, List, length, map, Some, refl, sym, ◌∙◌, ap, ap₂, subst, arith}
 use Rattle.ak_forest.specs.Numbers.{made, digit, end, span}
-use Rattle.ak_forest.specs.Tree.{Seen, Node, Reference, Link, Child, Children, Stands, IsTree, IsGrown, IsBlind, Waits, spot, pending, found, found_in}
+use Rattle.ak_forest.specs.Tree.{Seen, Node, Reference, Link, Child, Children, Stands, IsTree, IsGrown, IsBlind, Waits, spot, pending, found, found_in, reads_of}
+use Rattle.ak_summary.specs.declared.summary.Summary.{Summary}
 use Rattle.ak_forest.proofs.Arith.{end_made, made_mono, made_split, times_one}
 use Rattle.ak_forest.proofs.Pending.{pending_is, live_at}
-use Rattle.ak_forest.proofs.Tally.{node_tally}
+use Rattle.ak_forest.proofs.Tally.{node_tally, node_ends}
 
-found_read : (join : ℕ → ℕ → ℕ) (seen : Seen) (k at : ℕ) (node : Node) → seen at ≡ Some node → found join seen k at ≡ found_in join k at node
+found_read : (join : Summary → Summary → Summary) (seen : Seen) (k at : ℕ) (node : Node) → seen at ≡ Some node → found join seen k at ≡ found_in join k at node
 found_read join seen k at node read = rw (read, found)
 
-found_here : (join : ℕ → ℕ → ℕ) (k at : ℕ) (node : Node) → (found_in join k at node).child ≡ at
+found_here : (join : Summary → Summary → Summary) (k at : ℕ) (node : Node) → (found_in join k at node).child ≡ at
 found_here join zero at node = refl
 found_here join (suc k) at node = refl
 
-module _ (fan lo series low leaves : ℕ) (home rescue : ℕ → ℕ) (total : ℕ → ℕ → ℕ) (join : ℕ → ℕ → ℕ) (seen : Seen) (two : 1 < fan)
-    (blind : IsBlind lo seen) (tree : IsTree fan lo series low leaves home total rescue seen)
+module _ (fan lo series low leaves : ℕ) (home rescue : ℕ → ℕ) (total : ℕ → ℕ → Summary) (join : Summary → Summary → Summary) (seen : Seen) (two : 1 < fan)
+    (blind : IsBlind lo seen) (tree : IsTree fan lo series low leaves home total rescue (reads_of seen)) (ends : (a b : Summary) → (join a b).end ≡ b.end)
     (adds : (i j k : ℕ) → low ≤ i → i < j → j < k → k ≤ leaves → join (total i j) (total j k) ≡ total i k) where
   link_here : (k j : ℕ) → low < end fan k j → Link fan lo low home k j (spot fan home k j)
   link_here k j l = record { live = λ h. refl; dead = λ d. absurd (omega (arith, l, d)) }
 
-  in_child : (k j : ℕ) (l : low < end fan k j) (s : Stands fan lo series low home total seen k j) → end fan k j ≤ leaves → Child fan lo low home total k j (found_in join k (spot fan home k j) s.node)
+  in_child : (k j : ℕ) (l : low < end fan k j) (s : Stands fan lo series low home total (reads_of seen) k j) → end fan k j ≤ leaves → Child fan lo low home total k j (found_in join k (spot fan home k j) s.node)
   in_child zero j l s e =
       let one : end fan 0 j ≡ suc j = times_one fan (suc j) in
       let start : max low (j * fan ^ 0) ≡ j = omega (arith, times_one fan j, one, l) in
       record {
         link = link_here 0 j l;
+        ends = λ h. ap (λ (x : Summary). x.end) (s.worth refl) ∙ sym (ap (λ (x : ℕ). (total (pred x) x).end) one);
         tally = inl record {
           some = l;
           begins = ap (λ (x : ℕ). home (pred x) + 0) one ∙ (let z : home j + 0 ≡ home j = omega arith in z) ∙ ap home (sym start);
@@ -33,6 +35,7 @@ module _ (fan lo series low leaves : ℕ) (home rescue : ℕ → ℕ) (total : �
       }
   in_child (suc k) j l s e = record {
     link = link_here (suc k) j l;
+    ends = λ h. node_ends fan lo low home total join ends k j s.node.references h s.body;
     tally = node_tally fan lo low leaves home total join (omega arith) adds k j s.node.references e l s.body;
   }
 
@@ -52,7 +55,7 @@ module _ (fan lo series low leaves : ℕ) (home rescue : ℕ → ℕ) (total : �
   length_map2 k (suc n) p = ap suc (length_map2 k n (suc p))
 
   -- an opening gives the invariant
-  pub opened : IsGrown fan lo series low leaves home total rescue seen low (λ k. map (found join seen k) (pending fan seen leaves rescue k))
+  pub opened : IsGrown fan lo series low leaves home total rescue (reads_of seen) low (λ k. map (found join seen k) (pending fan seen leaves rescue k))
   opened = record {
     tree = tree;
     older = omega arith;
@@ -70,10 +73,10 @@ module _ (fan lo series low leaves : ℕ) (home rescue : ℕ → ℕ) (total : �
   }
 
 -- a step of another series keeps the invariant
-pub tree_kept : (fan lo series low leaves : ℕ) (home rescue : ℕ → ℕ) (total : ℕ → ℕ → ℕ) (seen seen' : Seen)
-    → ((a : ℕ) (node : Node) → seen a ≡ Some node → seen' a ≡ Some node)
-    → IsTree fan lo series low leaves home total rescue seen → IsTree fan lo series low leaves home total rescue seen'
-tree_kept fan lo series low leaves home rescue total seen seen' keeps tree = record {
+pub tree_kept : (fan lo series low leaves : ℕ) (home rescue : ℕ → ℕ) (total : ℕ → ℕ → Summary) (reads reads' : ℕ → Node → Type 0)
+    → ((a : ℕ) (node : Node) → reads a node → reads' a node)
+    → IsTree fan lo series low leaves home total rescue reads → IsTree fan lo series low leaves home total rescue reads'
+tree_kept fan lo series low leaves home rescue total reads reads' keeps tree = record {
   fits = tree.fits;
   nodes = λ k j l e. let s = tree.nodes k j l e in record {
     node = s.node;
@@ -88,11 +91,11 @@ tree_kept fan lo series low leaves home rescue total seen seen' keeps tree = rec
   rescues = tree.rescues;
 }
 
-pub grown_kept : (fan lo series low leaves base : ℕ) (home rescue : ℕ → ℕ) (total : ℕ → ℕ → ℕ) (seen seen' : Seen) (waiting : ℕ → List Reference)
-    → ((a : ℕ) (node : Node) → seen a ≡ Some node → seen' a ≡ Some node)
-    → IsGrown fan lo series low leaves home total rescue seen base waiting → IsGrown fan lo series low leaves home total rescue seen' base waiting
-grown_kept fan lo series low leaves base home rescue total seen seen' waiting keeps grown = record {
-  tree = tree_kept fan lo series low leaves home rescue total seen seen' keeps grown.tree;
+pub grown_kept : (fan lo series low leaves base : ℕ) (home rescue : ℕ → ℕ) (total : ℕ → ℕ → Summary) (reads reads' : ℕ → Node → Type 0) (waiting : ℕ → List Reference)
+    → ((a : ℕ) (node : Node) → reads a node → reads' a node)
+    → IsGrown fan lo series low leaves home total rescue reads base waiting → IsGrown fan lo series low leaves home total rescue reads' base waiting
+grown_kept fan lo series low leaves base home rescue total reads reads' waiting keeps grown = record {
+  tree = tree_kept fan lo series low leaves home rescue total reads reads' keeps grown.tree;
   older = grown.older;
   waits = grown.waits;
 }

@@ -4,8 +4,9 @@ use Rattle.std.proofs.lemmas.Nat.{div_below}
 use Rattle.std.proofs.lemmas.List.{map-append}
 use Rattle.std.proofs.lemmas.Bool.{cases_lt}
 use Rattle.ak_forest.specs.Numbers.{made, digit, end, span, between}
-use Rattle.ak_forest.specs.Tree.{Seen, Node, Reference, Link, Elder, Children, IsTree, IsBlind, spot, follow, under, pending, gathered, width}
-use Rattle.ak_forest.proofs.Arith.{fan_pos, made_end, end_made, between_append, between_none, between_one, between_join, times_le, times_one, start_same, power_up, made_mono, made_zero, made_none, made_split, start_level}
+use Rattle.ak_forest.specs.Tree.{Seen, Node, Reference, Link, Elder, Children, IsTree, IsBlind, spot, follow, under, pending, gathered, width, reads_of}
+use Rattle.ak_summary.specs.declared.summary.Summary.{Summary}
+use Rattle.ak_forest.proofs.Arith.{fan_pos, made_end, end_made, between_append, between_none, between_one, between_join, times_le, times_one, start_same, power_up, made_mono, made_zero, made_none, made_split, start_level, family_stop}
 
 pub follow_some : (seen : Seen) (n at : ℕ) (node : Node) → seen at ≡ Some node → follow seen (suc n) at ≡ follow seen n node.elder ++ at ∷ []
 follow_some seen n at node read = rw (read, follow)
@@ -23,8 +24,8 @@ under_none : (seen : Seen) (k at : ℕ) → seen at ≡ None → under seen k at
 under_none seen zero at read = rw (read, under)
 under_none seen (suc k) at read = rw (read, under)
 
-module _ (fan lo series low leaves : ℕ) (home rescue : ℕ → ℕ) (total : ℕ → ℕ → ℕ) (seen : Seen) (two : 1 < fan)
-    (blind : IsBlind lo seen) (tree : IsTree fan lo series low leaves home total rescue seen) where
+module _ (fan lo series low leaves : ℕ) (home rescue : ℕ → ℕ) (total : ℕ → ℕ → Summary) (seen : Seen) (two : 1 < fan)
+    (blind : IsBlind lo seen) (tree : IsTree fan lo series low leaves home total rescue (reads_of seen)) where
   -- the first live node of a level, if it is made yet
   live_from : (k j : ℕ) → low < end fan k j → made fan k low ≤ j
   live_from k j h = let b : made fan k low < suc j = div_below low (fan ^ k) (suc j) (fan_pos fan k (omega arith)) h in omega arith
@@ -102,8 +103,7 @@ module _ (fan lo series low leaves : ℕ) (home rescue : ℕ → ℕ) (total : �
         let n = length stands.node.references in
         let c = suc j * fan - n in
         let size : n ≤ suc j * fan = omega (arith, family.most, times_le 1 (suc j) fan (omega arith)) in
-        let all : c + n ≡ suc j * fan = omega (arith, size) in
-        let stop : (c + n) * fan ^ k ≡ end fan (suc k) j = ap (λ (x : ℕ). x * fan ^ k) all ∙ sym (power_up fan k (suc j)) in
+        let stop : (c + n) * fan ^ k ≡ end fan (suc k) j = family_stop fan k j n family.most in
         let inside = under_children k (under_link k) stands.node.references c (omega (arith, stop, fits)) family.each in
         let start : max low (c * fan ^ k) ≡ max low (j * fan ^ suc k) = start_same low fan k j n family.most size family.missing in
         under_inner seen k at stands.node (ap seen place ∙ stands.read) ∙ inside ∙ ap (map home) (ap₂ between start stop)

@@ -3,10 +3,11 @@ use Rattle.std.proofs.Common.{◌≡◌, ◌⊎◌, inl, inr, ℕ, zero, suc, pr
 use Rattle.std.proofs.Math.Nat.{pow-le-pow_right}
 use Rattle.std.proofs.lemmas.Nat.{div-mul-add, mod-mul-add}
 use Rattle.std.proofs.lemmas.Bool.{cases_lt, cases_eq}
-use Rattle.ak_forest.specs.Numbers.{made, end, carry}
-use Rattle.ak_forest.specs.Tree.{Seen, Node, Reference, Link, Covers, Cut, Child, Elder, Children, Family, Body, Stands, IsTree, IsGrown, IsClose, Waits, spot}
-use Rattle.ak_forest.proofs.Arith.{fan_pos, times_one, made_zero, times_le, power_up, end_made, made_end, made_none, made_mono}
-use Rattle.ak_forest.proofs.Tally.{node_tally}
+use Rattle.ak_forest.specs.Numbers.{made, end, carry, digit}
+use Rattle.ak_forest.specs.Tree.{Node, Reference, Link, Covers, Cut, Child, Elder, Children, Family, Body, Stands, IsTree, IsGrown, IsClose, IsLift, Waits, spot}
+use Rattle.ak_summary.specs.declared.summary.Summary.{Summary}
+use Rattle.ak_forest.proofs.Arith.{fan_pos, times_one, made_zero, times_le, end_made, made_end, made_none, made_mono, family_stop, made_split}
+use Rattle.ak_forest.proofs.Tally.{node_tally, node_ends}
 use Rattle.ak_forest.proofs.Carries.{carry_takes, carry_divides, made_at, made_past, level_full}
 
 pub end_pos : (fan k j : ℕ) → 0 < fan → 0 < end fan k j
@@ -40,7 +41,7 @@ group_end fan m k p h =
     let split : suc m / fan ^ k * fan ^ k + suc m % fan ^ k ≡ suc m = div-add-mod' (suc m) (fan ^ k) in
     ap (λ (x : ℕ). x * fan ^ k) (sym (made_at fan m k p h)) ∙ omega (arith, split, whole)
 
-module _ (fan lo series low m : ℕ) (home later : ℕ → ℕ) (total total' : ℕ → ℕ → ℕ) (two : 1 < fan) (few : suc m < fan ^ 11)
+module _ (fan lo low m : ℕ) (home later : ℕ → ℕ) (total total' : ℕ → ℕ → Summary) (two : 1 < fan) (few : suc m < fan ^ 11)
     (same : (i : ℕ) → i < m → later i ≡ home i) (same_total : (i j : ℕ) → j ≤ m → total' i j ≡ total i j) where
   spot_same : (k j : ℕ) → end fan k j ≤ m → spot fan later k j ≡ spot fan home k j
   spot_same k j fits = ap (λ (x : ℕ). x + k) (same (pred (end fan k j)) (omega (arith, fits, end_pos fan k j (omega arith))))
@@ -52,7 +53,7 @@ module _ (fan lo series low m : ℕ) (home later : ℕ → ℕ) (total total' : 
   elder_moved k zero at fits link = link
   elder_moved k (suc j) at fits link = link_moved k j at (end_made fan k j m (omega arith) fits) link
 
-  pub tally_moved : (k j first summary : ℕ) → end fan k j ≤ m → Covers fan low home total k j first summary ⊎ Cut fan lo low k j first
+  pub tally_moved : (k j first : ℕ) (summary : Summary) → end fan k j ≤ m → Covers fan low home total k j first summary ⊎ Cut fan lo low k j first
       → Covers fan low later total' k j first summary ⊎ Cut fan lo low k j first
   tally_moved k j first summary fits (inl covers) =
       let room : j * fan ^ k < end fan k j = omega (arith, suc-mul j (fan ^ k), fan_pos fan k (omega arith)) in
@@ -69,15 +70,20 @@ module _ (fan lo series low m : ℕ) (home later : ℕ → ℕ) (total total' : 
       let len : suc j + length rs ≡ j + suc (length rs) = omega arith in
       let more : (suc j + length rs) * fan ^ k ≡ (j + suc (length rs)) * fan ^ k = ap (λ (x : ℕ). x * fan ^ k) len in
       let first : end fan k j ≤ (j + suc (length rs)) * fan ^ k = times_le (suc j) (j + suc (length rs)) (fan ^ k) (omega arith) in
-      (record { link = link_moved k j r.child (omega (arith, first, fits)) links.0.link; tally = tally_moved k j r.first r.summary (omega (arith, first, fits)) links.0.tally }, children_moved k (suc j) rs (omega (arith, more, fits)) links.1)
+      let here : end fan k j ≤ m = omega (arith, first, fits) in (
+        record {
+          link = link_moved k j r.child here links.0.link;
+          ends = λ l. links.0.ends l ∙ sym (ap (λ (x : Summary). x.end) (same_total (pred (end fan k j)) (end fan k j) here));
+          tally = tally_moved k j r.first r.summary here links.0.tally;
+        },
+        children_moved k (suc j) rs (omega (arith, more, fits)) links.1,
+      )
 
   pub body_moved : (k j : ℕ) (rs : List Reference) → end fan k j ≤ m → Body fan lo low home total k j rs → Body fan lo low later total' k j rs
   body_moved zero j rs fits body = body
   body_moved (suc k) j rs fits body =
       let n = length rs in
-      let size : n ≤ suc j * fan = omega (arith, body.most, times_le 1 (suc j) fan (omega arith)) in
-      let all : (suc j * fan - n) + n ≡ suc j * fan = omega (arith, size) in
-      let stop : ((suc j * fan - n) + n) * fan ^ k ≡ end fan (suc k) j = ap (λ (x : ℕ). x * fan ^ k) all ∙ sym (power_up fan k (suc j)) in
+      let stop : ((suc j * fan - n) + n) * fan ^ k ≡ end fan (suc k) j = family_stop fan k j n body.most in
       record { some = body.some; most = body.most; each = children_moved k (suc j * fan - n) rs (omega (arith, stop, fits)) body.each; missing = body.missing }
 
   -- a link to a node of the new group
@@ -151,113 +157,154 @@ module _ (fan lo series low m : ℕ) (home later : ℕ → ℕ) (total total' : 
       let less : made fan k base ≤ made fan k (suc m) = made_mono fan k base (suc m) (omega arith) (omega (arith, older)) in
       record { each = tt; all = omega (arith, full, up, less) }
 
--- a close keeps the invariant, also where older children are gone
-module _ (fan lo series low m at value base : ℕ) (join : ℕ → ℕ → ℕ) (home home' rescue rescue' : ℕ → ℕ) (total total' : ℕ → ℕ → ℕ) (seen seen' : Seen) (waiting waiting' : ℕ → List Reference)
-    (fresh : ℕ → Reference) (nodes : ℕ → Node) (two : 1 < fan) (few : suc m < fan ^ 11)
-    (old : IsGrown fan lo series low m home total rescue seen base waiting)
-    (step : IsClose fan series m at value base join home home' rescue rescue' total total' seen seen' waiting waiting' fresh nodes) where
-  fits : low ≤ m
-  fits = old.tree.fits
+-- nothing waits before the first leaf
+pub waits_none : (fan lo low k : ℕ) (home : ℕ → ℕ) (total : ℕ → ℕ → Summary) → 1 < fan → Waits fan lo low home total low low k []
+waits_none fan lo low k home total two = record { each = tt; all = omega (arith, made_split fan k low) }
 
-  link_fresh : (k : ℕ) → k ≤ carry fan m → Link fan lo low home' k (made fan k m) (fresh k).child
-  link_fresh k h =
-      let place : (fresh k).child ≡ home' m + k = (step.parts k h).pushed ∙ ap (λ (x : ℕ). x + k) (sym step.here) in
-      subst (λ (x : ℕ). Link fan lo low home' k (made fan k m) x) (sym place) (link_new fan lo series low m home home' total total' two few step.same step.same_total k fits h)
+-- at a level there wait no more than its digit
+pub waits_digit : (fan lo low base leaves k : ℕ) (home : ℕ → ℕ) (total : ℕ → ℕ → Summary) (rs : List Reference) → 1 < fan → base ≤ leaves
+    → Waits fan lo low home total base leaves k rs → length rs ≤ digit fan k leaves
+waits_digit fan lo low base leaves k home total rs two older waits = omega (arith, waits.all, made_split fan k leaves)
 
-  child_fresh : (k : ℕ) → k ≤ carry fan m → Child fan lo low home' total' k (made fan k m) (fresh k)
-  child_fresh zero h =
-      let part = step.parts 0 h in
+-- a close keeps what waits, also where older children are gone
+module _ (fan lo low m at : ℕ) (value : Summary) (base : ℕ) (join : Summary → Summary → Summary) (home home' : ℕ → ℕ) (total total' : ℕ → ℕ → Summary) (waiting waiting' : ℕ → List Reference)
+    (fresh : ℕ → Reference) (taken : ℕ → List Reference) (two : 1 < fan) (few : suc m < fan ^ 11) (older : base ≤ low) (fits : low ≤ m)
+    (waits : (k : ℕ) → Waits fan lo low home total base m k (waiting k))
+    (lift : IsLift fan m at value low join home home' total total' waiting waiting' fresh taken) where
+  link_lifted : (k : ℕ) → k ≤ carry fan m → Link fan lo low home' k (made fan k m) (fresh k).child
+  link_lifted k h =
+      let place : (fresh k).child ≡ home' m + k = lift.pushed k h ∙ ap (λ (x : ℕ). x + k) (sym lift.here) in
+      subst (λ (x : ℕ). Link fan lo low home' k (made fan k m) x) (sym place) (link_new fan lo low m home home' total total' two few lift.same lift.same_total k fits h)
+
+  family_over : (k : ℕ) → k < carry fan m → Child fan lo low home' total' k (made fan k m) (fresh k) → Family fan lo low home' total' k (made fan (suc k) m) (taken (suc k))
+  family_over k h child =
+      subst (λ (rs : List Reference). Family fan lo low home' total' k (made fan (suc k) m) rs) (sym (lift.takes (suc k) h).0)
+      (family_new fan lo low m home home' total total' two few lift.same lift.same_total base k (waiting k) (fresh k) older fits h child (waits k))
+
+  -- the new reference at a level
+  pub child_lifted : (k : ℕ) → k ≤ carry fan m → Child fan lo low home' total' k (made fan k m) (fresh k)
+  child_lifted zero h =
+      let takes = lift.takes 0 h in
       let stop : end fan 0 (made fan 0 m) ≡ suc m = group_end fan m 0 (omega arith) h in
       let begin : made fan 0 m * fan ^ 0 ≡ m = times_one fan (made fan 0 m) ∙ made_zero fan m in
       let start : max low (made fan 0 m * fan ^ 0) ≡ m = omega (arith, begin, fits) in
       record {
-        link = link_fresh 0 h;
+        link = link_lifted 0 h;
+        ends = λ l. ap (λ (x : Summary). x.end) (takes.2 ∙ sym lift.worth) ∙ sym (ap (λ (x : ℕ). (total' (pred x) x).end) stop);
         tally = inl record {
           some = omega (arith, stop, fits);
-          begins = part.takes.1 ∙ sym step.here ∙ ap home' (sym start);
-          worth = part.takes.2 ∙ sym step.worth ∙ sym (ap₂ total' start stop);
+          begins = takes.1 ∙ sym lift.here ∙ ap home' (sym start);
+          worth = takes.2 ∙ sym lift.worth ∙ sym (ap₂ total' start stop);
         };
       }
-  child_fresh (suc k) h =
-      let part = step.parts (suc k) h in
-      let family = family_new fan lo series low m home home' total total' two few step.same step.same_total base k (waiting k) (fresh k) old.older fits h (child_fresh k (omega (arith, h))) (old.waits k) in
-      let whole : Family fan lo low home' total' k (made fan (suc k) m) (nodes (suc k)).references =
-      subst (λ (rs : List Reference). Family fan lo low home' total' k (made fan (suc k) m) rs) (sym part.takes.0) family in
-      let stop : end fan (suc k) (made fan (suc k) m) ≡ suc m = group_end fan m (suc k) (omega arith) h in
+  child_lifted (suc k) h =
+      let takes = lift.takes (suc k) h in
+      let j = made fan (suc k) m in
+      let family = family_over k h (child_lifted k (omega (arith, h))) in
+      let stop : end fan (suc k) j ≡ suc m = group_end fan m (suc k) (omega arith) h in
       record {
-        link = link_fresh (suc k) h;
-        tally = subst₂ (λ (f s : ℕ). Covers fan low home' total' (suc k) (made fan (suc k) m) f s ⊎ Cut fan lo low (suc k) (made fan (suc k) m) f) (sym part.takes.1) (sym part.takes.2)
-            (node_tally fan lo low (suc m) home' total' join (omega arith) (λ i j l from. step.adds i j l (omega (arith, old.older, from))) k (made fan (suc k) m) (nodes (suc k)).references (le_of_eq stop) (omega (arith, stop, fits)) whole);
+        link = link_lifted (suc k) h;
+        ends = λ l. ap (λ (x : Summary). x.end) takes.2 ∙ node_ends fan lo low home' total' join lift.ends k j (taken (suc k)) l family;
+        tally = subst₂ (λ (f : ℕ) (s : Summary). Covers fan low home' total' (suc k) j f s ⊎ Cut fan lo low (suc k) j f) (sym takes.1) (sym takes.2)
+            (node_tally fan lo low (suc m) home' total' join (omega arith) lift.adds k j (taken (suc k)) (le_of_eq stop) (omega (arith, stop, fits)) family);
       }
+
+  -- what the new node above a level takes
+  pub family_lifted : (k : ℕ) → k < carry fan m → Family fan lo low home' total' k (made fan (suc k) m) (taken (suc k))
+  family_lifted k h = family_over k h (child_lifted k (omega (arith, h)))
+
+  pub waits_lifted : (k : ℕ) → Waits fan lo low home' total' base (suc m) k (waiting' k)
+  waits_lifted k = elim (cases_lt (carry fan m) k) [
+    | inl past ↦ subst (λ (rs : List Reference). Waits fan lo low home' total' base (suc m) k rs) (sym (lift.old_levels k past))
+        (waits_same fan lo low m home home' total total' two few lift.same lift.same_total base k (waiting k) past (waits k))
+    | inr in' ↦ elim (cases_eq k (carry fan m)) [
+      | inl top ↦ subst (λ (rs : List Reference). Waits fan lo low home' total' base (suc m) k rs)
+          (ap (λ (x : ℕ). waiting x ++ fresh x ∷ []) top ∙ sym (ap waiting' top ∙ lift.grown))
+          (waits_pushed fan lo low m home home' total total' two few lift.same lift.same_total base k (waiting k) (fresh k) top older fits (child_lifted k in') (waits k))
+      | inr under ↦ subst (λ (rs : List Reference). Waits fan lo low home' total' base (suc m) k rs) (sym (lift.emptied k (omega (arith, in', under))))
+          (waits_emptied fan lo low m home home' total total' two few lift.same lift.same_total base k (omega (arith, in', under)) (omega (arith, older, fits)))
+    ]
+  ]
+
+-- a close keeps the invariant
+module _ (fan lo series low m at : ℕ) (value : Summary) (base : ℕ) (join : Summary → Summary → Summary) (home home' rescue rescue' : ℕ → ℕ) (total total' : ℕ → ℕ → Summary) (reads reads' : ℕ → Node → Type 0)
+    (waiting waiting' : ℕ → List Reference) (fresh : ℕ → Reference) (nodes : ℕ → Node) (two : 1 < fan) (few : suc m < fan ^ 11)
+    (old : IsGrown fan lo series low m home total rescue reads base waiting)
+    (step : IsClose fan series m at value low join home home' rescue rescue' total total' reads reads' waiting waiting' fresh nodes) where
+  lift_of : IsLift fan m at value low join home home' total total' waiting waiting' fresh (λ k. (nodes k).references)
+  lift_of = record {
+    here = step.here;
+    same = step.same;
+    worth = step.worth;
+    same_total = step.same_total;
+    ends = step.ends;
+    adds = step.adds;
+    takes = λ k h. (step.parts k h).takes;
+    pushed = λ k h. (step.parts k h).pushed;
+    emptied = step.emptied;
+    grown = step.grown;
+    old_levels = step.old_levels;
+  }
+
+  fits : low ≤ m
+  fits = old.tree.fits
 
   body_new : (k : ℕ) → k ≤ carry fan m → Body fan lo low home' total' k (made fan k m) (nodes k).references
   body_new zero h = (step.parts 0 h).takes.0
-  body_new (suc k) h =
-      subst (λ (rs : List Reference). Family fan lo low home' total' k (made fan (suc k) m) rs) (sym (step.parts (suc k) h).takes.0)
-      (family_new fan lo series low m home home' total total' two few step.same step.same_total base k (waiting k) (fresh k) old.older fits h (child_fresh k (omega (arith, h))) (old.waits k))
+  body_new (suc k) h = family_lifted fan lo low m at value base join home home' total total' waiting waiting' fresh (λ l. (nodes l).references) two few old.older fits old.waits lift_of k h
 
-  stands_new : (k : ℕ) → k ≤ carry fan m → Stands fan lo series low home' total' seen' k (made fan k m)
+  stands_new : (k : ℕ) → k ≤ carry fan m → Stands fan lo series low home' total' reads' k (made fan k m)
   stands_new k h =
       let part = step.parts k h in
       let place : spot fan home' k (made fan k m) ≡ at + k = ap (λ (x : ℕ). home' (pred x) + k) (group_end fan m k (omega arith) h) ∙ ap (λ (x : ℕ). x + k) step.here in
       record {
         node = nodes k;
-        read = ap seen' place ∙ step.written k h;
+        read = subst (λ (x : ℕ). reads' x (nodes k)) (sym place) (step.written k h);
         of_series = part.of_series;
         of_level = part.of_level;
         numbered = part.numbered;
         worth = λ is. part.worth is ∙ sym step.worth ∙ ap (λ (x : ℕ). total' x (suc x)) (sym (ap (λ (x : ℕ). made fan x m) is ∙ made_zero fan m));
         elder = subst (λ (x : ℕ). Elder fan lo low home' k (made fan k m) x) (sym part.elder)
-            (elder_moved fan lo series low m home home' total total' two few step.same step.same_total k (made fan k m) (rescue k) (omega arith) (old.tree.rescues k));
+            (elder_moved fan lo low m home home' total total' two few step.same step.same_total k (made fan k m) (rescue k) (omega arith) (old.tree.rescues k));
         body = body_new k h;
       }
 
-  stands_old : (k j : ℕ) → low < end fan k j → end fan k j ≤ m → Stands fan lo series low home' total' seen' k j
+  stands_old : (k j : ℕ) → low < end fan k j → end fan k j ≤ m → Stands fan lo series low home' total' reads' k j
   stands_old k j l e =
       let s = old.tree.nodes k j l e in
       record {
         node = s.node;
-        read = ap seen' (spot_same fan lo series low m home home' total total' two few step.same step.same_total k j e) ∙ step.keeps (spot fan home k j) s.node s.read;
+        read = subst (λ (x : ℕ). reads' x s.node) (sym (spot_same fan lo low m home home' total total' two few step.same step.same_total k j e)) (step.keeps (spot fan home k j) s.node s.read);
         of_series = s.of_series;
         of_level = s.of_level;
         numbered = s.numbered;
         worth = λ is. s.worth is ∙ sym (step.same_total j (suc j) (omega (arith, e, times_le 1 (fan ^ k) (suc j) (fan_pos fan k (omega arith)), mul_comm (suc j) (fan ^ k))));
-        elder = elder_moved fan lo series low m home home' total total' two few step.same step.same_total k j s.node.elder (omega (arith, made_end fan k j m (omega arith) e)) s.elder;
-        body = body_moved fan lo series low m home home' total total' two few step.same step.same_total k j s.node.references e s.body;
+        elder = elder_moved fan lo low m home home' total total' two few step.same step.same_total k j s.node.elder (omega (arith, made_end fan k j m (omega arith) e)) s.elder;
+        body = body_moved fan lo low m home home' total total' two few step.same step.same_total k j s.node.references e s.body;
       }
 
-  pub tree_placed : IsTree fan lo series low (suc m) home' total' rescue' seen'
+  pub tree_placed : IsTree fan lo series low (suc m) home' total' rescue' reads'
   tree_placed = record {
     fits = omega (arith, fits);
     nodes = λ k j l e. elim (cases_lt m (end fan k j)) [
       | inl new ↦
           let found = in_group fan m k j (omega arith) few (omega (arith, new, e)) in
-          subst (λ (x : ℕ). Stands fan lo series low home' total' seen' k x) (sym found.1) (stands_new k found.0)
+          subst (λ (x : ℕ). Stands fan lo series low home' total' reads' k x) (sym found.1) (stands_new k found.0)
       | inr within ↦ stands_old k j l within
     ];
     rescues = λ k. elim (cases_lt (carry fan m) k) [
       | inl past ↦
           subst₂ (λ (j a : ℕ). Elder fan lo low home' k j a) (sym (made_rest fan m k (omega arith) few past)) (sym (step.old_points k past))
-          (elder_moved fan lo series low m home home' total total' two few step.same step.same_total k (made fan k m) (rescue k) (omega arith) (old.tree.rescues k))
+          (elder_moved fan lo low m home home' total total' two few step.same step.same_total k (made fan k m) (rescue k) (omega arith) (old.tree.rescues k))
       | inr in' ↦
           subst₂ (λ (j a : ℕ). Elder fan lo low home' k j a) (sym (made_at fan m k (omega arith) in')) (ap (λ (x : ℕ). x + k) step.here ∙ sym (step.new_points k in'))
-          (link_new fan lo series low m home home' total total' two few step.same step.same_total k fits in')
+          (link_new fan lo low m home home' total total' two few step.same step.same_total k fits in')
     ];
   }
 
-  pub grown_placed : IsGrown fan lo series low (suc m) home' total' rescue' seen' base waiting'
+  pub grown_placed : IsGrown fan lo series low (suc m) home' total' rescue' reads' base waiting'
   grown_placed = record {
     tree = tree_placed;
     older = old.older;
-    waits = λ k. elim (cases_lt (carry fan m) k) [
-      | inl past ↦ subst (λ (rs : List Reference). Waits fan lo low home' total' base (suc m) k rs) (sym (step.old_levels k past))
-          (waits_same fan lo series low m home home' total total' two few step.same step.same_total base k (waiting k) past (old.waits k))
-      | inr in' ↦ elim (cases_eq k (carry fan m)) [
-        | inl top ↦ subst (λ (rs : List Reference). Waits fan lo low home' total' base (suc m) k rs)
-            (ap (λ (x : ℕ). waiting x ++ fresh x ∷ []) top ∙ sym (ap waiting' top ∙ step.grown))
-            (waits_pushed fan lo series low m home home' total total' two few step.same step.same_total base k (waiting k) (fresh k) top old.older fits (child_fresh k in') (old.waits k))
-        | inr under ↦ subst (λ (rs : List Reference). Waits fan lo low home' total' base (suc m) k rs) (sym (step.emptied k (omega (arith, in', under))))
-            (waits_emptied fan lo series low m home home' total total' two few step.same step.same_total base k (omega (arith, in', under)) (omega (arith, old.older, fits)))
-      ]
-    ];
+    waits = waits_lifted fan lo low m at value base join home home' total total' waiting waiting' fresh (λ k. (nodes k).references) two few old.older fits old.waits lift_of;
   }

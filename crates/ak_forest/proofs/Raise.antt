@@ -2,14 +2,12 @@
 use Rattle.std.proofs.Common.{◌≡◌, inl, inr, ℕ, zero, suc, pred, ◌+◌, ◌-◌, ◌*◌, max, ◌^◌, ◌⊎◌, ◌<◌, ◌≤◌, List, [], ◌∷◌, length, ◌∙◌, ap, arith, suc-mul}
 use Rattle.std.proofs.lemmas.Bool.{cases_lt}
 use Rattle.ak_forest.specs.Numbers.{made, end}
-use Rattle.ak_forest.specs.Tree.{Seen, Reference, Link, Covers, Cut, Elder, Children, Body, IsTree, IsGrown, Waits, spot, width}
+use Rattle.ak_forest.specs.Tree.{Reference, Link, Covers, Cut, Elder, Children, Body, IsTree, IsGrown, Waits, spot, width, Node}
+use Rattle.ak_summary.specs.declared.summary.Summary.{Summary}
 use Rattle.ak_forest.proofs.Arith.{times_le, times_one, fan_pos}
 
-module _ (fan lo next low last leaves : ℕ) (home : ℕ → ℕ) (total : ℕ → ℕ → ℕ) (pos : 0 < fan) (rises : lo ≤ next) (dies : low ≤ last)
+module _ (fan lo next low last leaves : ℕ) (home : ℕ → ℕ) (total : ℕ → ℕ → Summary) (pos : 0 < fan) (rises : lo ≤ next) (dies : low ≤ last)
     (gone : (k j : ℕ) → low < end fan k j → end fan k j ≤ last → spot fan home k j < next * width) where
-  abbrev Before : ℕ → ℕ → ℕ → Type 0
-  Before k j at = Link fan lo low home k j at
-
   pub link_raised : (k j at : ℕ) → Link fan lo low home k j at → Link fan next last home k j at
   link_raised k j at link = record {
     live = λ l. link.live (omega arith);
@@ -23,7 +21,7 @@ module _ (fan lo next low last leaves : ℕ) (home : ℕ → ℕ) (total : ℕ �
   elder_raised k zero at link = link
   elder_raised k (suc j) at link = link_raised k j at link
 
-  pub tally_raised : (k j first summary : ℕ) → Covers fan low home total k j first summary ⊎ Cut fan lo low k j first
+  pub tally_raised : (k j first : ℕ) (summary : Summary) → Covers fan low home total k j first summary ⊎ Cut fan lo low k j first
       → Covers fan last home total k j first summary ⊎ Cut fan next last k j first
   tally_raised k j first summary (inl covers) =
       let f = max low (j * fan ^ k) in
@@ -46,7 +44,7 @@ module _ (fan lo next low last leaves : ℕ) (home : ℕ → ℕ) (total : ℕ �
 
   pub children_raised : (k j : ℕ) (rs : List Reference) → Children fan lo low home total k j rs → Children fan next last home total k j rs
   children_raised k j [] links = tt
-  children_raised k j (r ∷ rs) links = (record { link = link_raised k j r.child links.0.link; tally = tally_raised k j r.first r.summary links.0.tally }, children_raised k (suc j) rs links.1)
+  children_raised k j (r ∷ rs) links = (record { link = link_raised k j r.child links.0.link; ends = λ l. links.0.ends (omega arith); tally = tally_raised k j r.first r.summary links.0.tally }, children_raised k (suc j) rs links.1)
 
   pub body_raised : (k j : ℕ) (rs : List Reference) → Body fan lo low home total k j rs → Body fan next last home total k j rs
   body_raised zero j rs body = body
@@ -60,15 +58,15 @@ module _ (fan lo next low last leaves : ℕ) (home : ℕ → ℕ) (total : ℕ �
   pub waits_raised : (base k : ℕ) (rs : List Reference) → Waits fan lo low home total base leaves k rs → Waits fan next last home total base leaves k rs
   waits_raised base k rs waits = record { each = children_raised k (max (made fan k base) (made fan (suc k) leaves * fan)) rs waits.each; all = waits.all }
 
-  pub tree_raised : (series : ℕ) (rescue : ℕ → ℕ) (seen later : Seen) → last ≤ leaves
-      → ((at : ℕ) → next * width ≤ at → later at ≡ seen at)
+  pub tree_raised : (series : ℕ) (rescue : ℕ → ℕ) (reads later : ℕ → Node → Type 0) → last ≤ leaves
+      → ((at : ℕ) (node : Node) → next * width ≤ at → reads at node → later at node)
       → ((k j : ℕ) → last < end fan k j → end fan k j ≤ leaves → next * width ≤ spot fan home k j)
-      → IsTree fan lo series low leaves home total rescue seen → IsTree fan next series last leaves home total rescue later
-  tree_raised series rescue seen later fits keeps lives tree = record {
+      → IsTree fan lo series low leaves home total rescue reads → IsTree fan next series last leaves home total rescue later
+  tree_raised series rescue reads later fits keeps lives tree = record {
     fits = fits;
     nodes = λ k j l e. let s = tree.nodes k j (omega arith) e in record {
       node = s.node;
-      read = keeps (spot fan home k j) (lives k j l e) ∙ s.read;
+      read = keeps (spot fan home k j) s.node (lives k j l e) s.read;
       of_series = s.of_series;
       of_level = s.of_level;
       numbered = s.numbered;
@@ -80,12 +78,12 @@ module _ (fan lo next low last leaves : ℕ) (home : ℕ → ℕ) (total : ℕ �
   }
 
   -- a switch keeps the invariant
-  pub grown_raised : (series : ℕ) (rescue : ℕ → ℕ) (seen later : Seen) (base : ℕ) (waiting : ℕ → List Reference) → last ≤ leaves
-      → ((at : ℕ) → next * width ≤ at → later at ≡ seen at)
+  pub grown_raised : (series : ℕ) (rescue : ℕ → ℕ) (reads later : ℕ → Node → Type 0) (base : ℕ) (waiting : ℕ → List Reference) → last ≤ leaves
+      → ((at : ℕ) (node : Node) → next * width ≤ at → reads at node → later at node)
       → ((k j : ℕ) → last < end fan k j → end fan k j ≤ leaves → next * width ≤ spot fan home k j)
-      → IsGrown fan lo series low leaves home total rescue seen base waiting → IsGrown fan next series last leaves home total rescue later base waiting
-  grown_raised series rescue seen later base waiting fits keeps lives grown = record {
-    tree = tree_raised series rescue seen later fits keeps lives grown.tree;
+      → IsGrown fan lo series low leaves home total rescue reads base waiting → IsGrown fan next series last leaves home total rescue later base waiting
+  grown_raised series rescue reads later base waiting fits keeps lives grown = record {
+    tree = tree_raised series rescue reads later fits keeps lives grown.tree;
     older = omega (arith, grown.older);
     waits = λ k. waits_raised base k (waiting k) (grown.waits k);
   }

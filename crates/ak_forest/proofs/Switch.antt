@@ -2,7 +2,8 @@
 use Rattle.std.proofs.Common.{◌≡◌, ℕ, suc, pred, ◌+◌, ◌-◌, ◌*◌, ◌/◌, ◌%◌, ◌^◌, ◌<◌, ◌≤◌, ◌&&◌, nat_le, nat_lt, Bool, true, false, true≢false, is_none, if◌then◌else◌, List, [], ◌∷◌, ◌++◌, length, map, get_or, Some, None, refl, sym, ◌∙◌, ap, ap₂, subst, arith}
 use Rattle.std.proofs.lemmas.Bool.Decides.{nat_tests}
 use Rattle.ak_forest.specs.Numbers.{made, end, span, carry}
-use Rattle.ak_forest.specs.Tree.{Seen, Node, spot, width}
+use Rattle.ak_forest.specs.Tree.{Seen, Node, spot, width, reads_of}
+use Rattle.ak_summary.specs.declared.summary.Summary.{Summary}
 use Rattle.ak_forest.specs.Image.{Volumes, live, seen_of, row, scan_from, scan_of, Holds, IsWhole, IsSeries, IsSound}
 use Rattle.ak_forest.specs.Forest.{Kept, IsPlanted}
 use Rattle.ak_forest.proofs.Arith.{times_one}
@@ -48,7 +49,7 @@ module _ (lo fill : ℕ) (fills : List ℕ) (spells : Seen) where
   new_scan series = scan_empty (seen_of new spells) series (suc lo) fills ∙ scan_same (seen_of new spells) (seen_of old spells) (suc lo * width) seen_same series (suc lo) fills (omega arith)
 
   -- the leaves that die stand in the ordinal that is given up, and so do the nodes behind them
-  gone : (fan series leaves : ℕ) (total : ℕ → ℕ → ℕ) (rescue : ℕ → ℕ) → 1 < fan → leaves < fan ^ 11 → fill < width → IsWhole fan (seen_of old spells)
+  gone : (fan series leaves : ℕ) (total : ℕ → ℕ → Summary) (rescue : ℕ → ℕ) → 1 < fan → leaves < fan ^ 11 → fill < width → IsWhole fan (seen_of old spells)
       → (s : IsSeries fan old (seen_of old spells) series leaves total rescue)
       → Each (λ x. (lo * width ≤ x) × (x < lo * width + fill)) (map s.home (span s.low (length (row (seen_of old spells) series (lo * width) fill))))
       → (k j : ℕ) → s.low < end fan k j → end fan k j ≤ s.low + length (row (seen_of old spells) series (lo * width) fill)
@@ -65,7 +66,7 @@ module _ (lo fill : ℕ) (fills : List ℕ) (spells : Seen) where
       let at = each_at (λ x. (lo * width ≤ x) × (x < lo * width + fill)) s.home (length (row (seen_of old spells) series (lo * width) fill)) s.low i early (omega (arith, l, stop)) (omega (arith, e, stop)) in
       omega (arith, room, at.0, at.1, small)
 
-  pub series_switched : (fan series leaves : ℕ) (total : ℕ → ℕ → ℕ) (rescue : ℕ → ℕ) → 1 < fan → leaves < fan ^ 11 → fill < width → IsWhole fan (seen_of old spells)
+  pub series_switched : (fan series leaves : ℕ) (total : ℕ → ℕ → Summary) (rescue : ℕ → ℕ) → 1 < fan → leaves < fan ^ 11 → fill < width → IsWhole fan (seen_of old spells)
       → IsSeries fan old (seen_of old spells) series leaves total rescue → IsSeries fan new (seen_of new spells) series leaves total rescue
   series_switched fan series leaves total rescue two few small whole s =
       let seen = seen_of old spells in
@@ -84,7 +85,7 @@ module _ (lo fill : ℕ) (fills : List ℕ) (spells : Seen) where
         scanned = new_scan series ∙ sym (ap (λ (x : ℕ). map s.home (span last x)) left ∙ split.second);
         tree = tree_raised fan lo (suc lo) s.low last leaves s.home total (omega arith) (omega arith) (omega arith)
             (λ k j l e. gone fan series leaves total rescue two few small whole s early k j l e (omega (arith, split.count, s.tree.fits)))
-            series rescue seen (seen_of new spells) (omega (arith, split.count, s.tree.fits)) seen_same
+            series rescue (reads_of seen) (reads_of (seen_of new spells)) (omega (arith, split.count, s.tree.fits)) (λ at node from read. seen_same at from ∙ read)
             (λ k j l e.
             let here : suc lo * width ≤ s.home (pred (end fan k j)) =
             each_at (λ x. suc lo * width ≤ x) s.home (length rest) last (pred (end fan k j)) late (omega (arith, l, end_pos fan k j (omega arith))) (omega (arith, e, split.count, s.tree.fits, end_pos fan k j (omega arith))) in
@@ -117,7 +118,7 @@ module _ (lo fill : ℕ) (fills : List ℕ) (spells : Seen) where
         scanned = new_scan series ∙ sym (ap (λ (x : ℕ). map s.home (span last x)) left ∙ split.second);
         grown = grown_raised fan lo (suc lo) s.low last leaves s.home total (omega arith) (omega arith) (omega arith)
             (λ k j l e. gone fan series leaves total rescue two few small whole s early k j l e (omega (arith, split.count, s.tree.fits)))
-            series rescue seen (seen_of new spells) kept.base kept.waiting (omega (arith, split.count, s.tree.fits)) seen_same
+            series rescue (reads_of seen) (reads_of (seen_of new spells)) kept.base kept.waiting (omega (arith, split.count, s.tree.fits)) (λ at node from read. seen_same at from ∙ read)
             (λ k j l e.
             let here : suc lo * width ≤ s.home (pred (end fan k j)) =
             each_at (λ x. suc lo * width ≤ x) s.home (length rest) last (pred (end fan k j)) late (omega (arith, l, end_pos fan k j (omega arith))) (omega (arith, e, split.count, s.tree.fits, end_pos fan k j (omega arith))) in
@@ -141,7 +142,7 @@ module _ (lo fill : ℕ) (fills : List ℕ) (spells : Seen) where
       holds at series level number from h = record { node = h.node; read = seen_same at from ∙ h.read; of_series = h.of_series; of_level = h.of_level; numbered = h.numbered }
 
   -- the least ordinal is given up
-  pub sound_switched : (fan count : ℕ) (leaves : ℕ → ℕ) (rescue : ℕ → ℕ → ℕ) (total : ℕ → ℕ → ℕ → ℕ) → 1 < fan → ((series : ℕ) → series < count → leaves series < fan ^ 11)
+  pub sound_switched : (fan count : ℕ) (leaves : ℕ → ℕ) (rescue : ℕ → ℕ → ℕ) (total : ℕ → ℕ → ℕ → Summary) → 1 < fan → ((series : ℕ) → series < count → leaves series < fan ^ 11)
       → IsSound fan count leaves rescue total old (seen_of old spells) → IsSound fan count leaves rescue total new (seen_of new spells)
   sound_switched fan count leaves rescue total two few sound = record {
     small = λ i. subst (λ (x : ℕ). x < width) (sym (fill_empty fills i)) (sound.small (suc i));
@@ -164,7 +165,7 @@ module _ (lo : ℕ) (fills : List ℕ) (spells : Seen) where
   pub wide_same : seen_of wide spells ≡ seen_of narrow spells
   wide_same = λ i at. (if (nat_le lo (at / width) && nat_lt (at % width) (fill_empty fills (at / width - lo) i)) then spells at else None)
 
-  pub sound_widened : (fan count : ℕ) (leaves : ℕ → ℕ) (rescue : ℕ → ℕ → ℕ) (total : ℕ → ℕ → ℕ → ℕ)
+  pub sound_widened : (fan count : ℕ) (leaves : ℕ → ℕ) (rescue : ℕ → ℕ → ℕ) (total : ℕ → ℕ → ℕ → Summary)
       → IsSound fan count leaves rescue total narrow (seen_of narrow spells) → IsSound fan count leaves rescue total wide (seen_of wide spells)
   sound_widened fan count leaves rescue total sound = subst (λ (s : Seen). IsSound fan count leaves rescue total wide s) (sym wide_same) record {
     small = λ i. subst (λ (x : ℕ). x < width) (sym (fill_empty fills i)) (sound.small i);

@@ -1,10 +1,31 @@
 -- First leaves and summaries: those of a node are those of its references, joined.
-use Rattle.std.proofs.Common.{◌≡◌, ◌⊎◌, inl, inr, ℕ, suc, ◌+◌, ◌-◌, ◌*◌, ◌^◌, ◌<◌, ◌≤◌, max, List, [], ◌∷◌, length, sym, ◌∙◌, ap, ap₂, arith, suc-mul}
+use Rattle.std.proofs.Common.{◌≡◌, ◌⊎◌, inl, inr, ℕ, suc, ◌+◌, ◌-◌, ◌*◌, ◌^◌, ◌<◌, ◌≤◌, max, List, [], ◌∷◌, length, sym, ◌∙◌, ap, ap₂, arith, suc-mul, pred}
 use Rattle.ak_forest.specs.Numbers.{end}
 use Rattle.ak_forest.specs.Tree.{Reference, Covers, Cut, Children, Family, first_of, joined}
-use Rattle.ak_forest.proofs.Arith.{fan_pos, times_le, power_up, start_same}
+use Rattle.ak_summary.specs.declared.summary.Summary.{Summary}
+use Rattle.ak_forest.proofs.Arith.{fan_pos, times_le, power_up, start_same, family_stop}
 
-module _ (fan lo low bound : ℕ) (home : ℕ → ℕ) (total : ℕ → ℕ → ℕ) (join : ℕ → ℕ → ℕ) (pos : 0 < fan)
+module _ (fan lo low : ℕ) (home : ℕ → ℕ) (total : ℕ → ℕ → Summary) (join : Summary → Summary → Summary) (ends : (a b : Summary) → (join a b).end ≡ b.end) where
+  joined_ends : (k c : ℕ) (r : Reference) (rs : List Reference) → low < (c + suc (length rs)) * fan ^ k → Children fan lo low home total k c (r ∷ rs)
+      → (joined join (r ∷ rs)).end ≡ (total (pred ((c + suc (length rs)) * fan ^ k)) ((c + suc (length rs)) * fan ^ k)).end
+  joined_ends k c r [] live links =
+      let more : (c + 1) * fan ^ k ≡ end fan k c = (let len : c + 1 ≡ suc c = omega arith in ap (λ (x : ℕ). x * fan ^ k) len) in
+      links.0.ends (omega (arith, more, live)) ∙ sym (ap (λ (x : ℕ). (total (pred x) x).end) more)
+  joined_ends k c r (s ∷ rs) live links =
+      let len : c + suc (suc (length rs)) ≡ suc c + suc (length rs) = omega arith in
+      let more : (c + suc (suc (length rs))) * fan ^ k ≡ (suc c + suc (length rs)) * fan ^ k = ap (λ (x : ℕ). x * fan ^ k) len in
+      ends r.summary (joined join (s ∷ rs)) ∙ joined_ends k (suc c) s rs (omega (arith, more, live)) links.1 ∙ sym (ap (λ (x : ℕ). (total (pred x) x).end) more)
+
+  -- the summary of a node's references ends with its last leaf
+  pub node_ends : (k j : ℕ) (rs : List Reference) → low < end fan (suc k) j → Family fan lo low home total k j rs
+      → (joined join rs).end ≡ (total (pred (end fan (suc k) j)) (end fan (suc k) j)).end
+  node_ends k j [] live family = absurd (omega (arith, family.some))
+  node_ends k j (r ∷ rs) live family =
+      let n = suc (length rs) in
+      let stop : ((suc j * fan - n) + n) * fan ^ k ≡ end fan (suc k) j = family_stop fan k j n family.most in
+      joined_ends k (suc j * fan - n) r rs (omega (arith, stop, live)) family.each ∙ ap (λ (x : ℕ). (total (pred x) x).end) stop
+
+module _ (fan lo low bound : ℕ) (home : ℕ → ℕ) (total : ℕ → ℕ → Summary) (join : Summary → Summary → Summary) (pos : 0 < fan)
     (adds : (i j k : ℕ) → low ≤ i → i < j → j < k → k ≤ bound → join (total i j) (total j k) ≡ total i k) where
   record Joined (k c stop : ℕ) (references : List Reference) : Type 0 where
     some : low < end fan k c
@@ -50,8 +71,7 @@ module _ (fan lo low bound : ℕ) (home : ℕ → ℕ) (total : ℕ → ℕ → 
       let n = suc (length rs) in
       let c = suc j * fan - n in
       let size : n ≤ suc j * fan = omega (arith, family.most, times_le 1 (suc j) fan (omega arith)) in
-      let all : c + n ≡ suc j * fan = omega (arith, size) in
-      let stop : (c + n) * fan ^ k ≡ end fan (suc k) j = ap (λ (x : ℕ). x * fan ^ k) all ∙ sym (power_up fan k (suc j)) in
+      let stop : (c + n) * fan ^ k ≡ end fan (suc k) j = family_stop fan k j n family.most in
       let start : max low (c * fan ^ k) ≡ max low (j * fan ^ suc k) = start_same low fan k j n family.most size family.missing in
       elim (combined k c r rs (omega (arith, stop, fits)) family.each) [
         | inl one ↦ inl record { some = live; begins = one.begins ∙ ap home start; worth = one.worth ∙ ap₂ total start stop }

@@ -3,11 +3,12 @@ use Rattle.std.proofs.Common.{◌≡◌, ◌⊎◌, inl, inr, ℕ, zero, suc, pr
 use Rattle.std.proofs.lemmas.Bool.{cases_lt, cases_eq}
 use Rattle.std.proofs.lemmas.Bool.Decides.{nat_tests}
 use Rattle.ak_forest.specs.Numbers.{made, end, span, between, carry}
-use Rattle.ak_forest.specs.Tree.{Seen, Node, Reference, Link, Elder, Covers, Cut, Children, Family, Body, IsTree, spot, width}
+use Rattle.ak_forest.specs.Tree.{Seen, Node, Reference, Link, Elder, Covers, Cut, Children, Family, Body, IsTree, spot, width, reads_of}
+use Rattle.ak_summary.specs.declared.summary.Summary.{Summary}
 use Rattle.ak_forest.specs.Image.{Volumes, live, leaf_here, row, scan_from, scan_of, Holds, IsWhole, IsSeries}
 use Rattle.ak_forest.specs.Written.{number_at, IsLive, Names, ElderNames, Tells, AllName, LastChildren, Content, IsWrittenSeries}
 use Rattle.ak_forest.proofs.Scans.{Each, each_append, each_at}
-use Rattle.ak_forest.proofs.Arith.{length_span, fan_pos, times_le, end_made, made_end, times_one, power_up}
+use Rattle.ak_forest.proofs.Arith.{length_span, fan_pos, times_le, end_made, made_end, times_one, power_up, family_stop}
 use Rattle.ak_forest.proofs.Place.{in_group, group_end, end_pos}
 use Rattle.ak_forest.proofs.Group.{same_node, same_test, live_parts}
 
@@ -65,7 +66,7 @@ has_home home x low (suc n) (inr h) = let r = has_home home x (suc low) n h in (
 number_read : (seen : Seen) (at : ℕ) (node : Node) → seen at ≡ Some node → number_at seen at ≡ node.number
 number_read seen at node read = rw (read, number_at)
 
-module _ (fan : ℕ) (v : Volumes) (seen : Seen) (series leaves : ℕ) (total : ℕ → ℕ → ℕ) (rescue : ℕ → ℕ) (two : 1 < fan) (few : leaves < fan ^ 11)
+module _ (fan : ℕ) (v : Volumes) (seen : Seen) (series leaves : ℕ) (total : ℕ → ℕ → Summary) (rescue : ℕ → ℕ) (two : 1 < fan) (few : leaves < fan ^ 11)
     (only : (at : ℕ) (node : Node) → seen at ≡ Some node → live v at ≡ true) (whole : IsWhole fan seen)
     (low : ℕ) (home : ℕ → ℕ) (fits : low ≤ leaves) (scanned : scan_of v seen series ≡ map home (between low leaves))
     (leaf_at : (i : ℕ) → low ≤ i → i < leaves → Holds seen (home i) series 0 i) where
@@ -166,22 +167,26 @@ module _ (fan : ℕ) (v : Volumes) (seen : Seen) (series leaves : ℕ) (total : 
   children_of k j [] e h = tt
   children_of k j (r ∷ rs) e h =
       let more : (suc j + length rs) * fan ^ k ≡ (j + suc (length rs)) * fan ^ k = (let len : suc j + length rs ≡ j + suc (length rs) = omega arith in ap (λ (x : ℕ). x * fan ^ k) len) in
-      let first : end fan k j ≤ (j + suc (length rs)) * fan ^ k = times_le (suc j) (j + suc (length rs)) (fan ^ k) (omega arith) in
-      (record { link = link_of k j r.child (omega (arith, first, e)) h.0.0; tally = tally_of k j r (omega (arith, first, e)) h.0.1 }, children_of k (suc j) rs (omega (arith, more, e)) h.1)
+      let first : end fan k j ≤ (j + suc (length rs)) * fan ^ k = times_le (suc j) (j + suc (length rs)) (fan ^ k) (omega arith) in (
+        record {
+          link = link_of k j r.child (omega (arith, first, e)) h.0.0;
+          ends = λ l. h.0.2 (spot fan home k j, node_at k j l (omega (arith, first, e)));
+          tally = tally_of k j r (omega (arith, first, e)) h.0.1;
+        },
+        children_of k (suc j) rs (omega (arith, more, e)) h.1,
+      )
 
   all_name : (k j : ℕ) (rs : List Reference) → (j + length rs) * fan ^ k ≤ leaves → Children fan v.lo low home total k j rs → AllName fan seen v.lo series total k j rs
   all_name k j [] e h = tt
   all_name k j (r ∷ rs) e h =
       let more : (suc j + length rs) * fan ^ k ≡ (j + suc (length rs)) * fan ^ k = (let len : suc j + length rs ≡ j + suc (length rs) = omega arith in ap (λ (x : ℕ). x * fan ^ k) len) in
       let first : end fan k j ≤ (j + suc (length rs)) * fan ^ k = times_le (suc j) (j + suc (length rs)) (fan ^ k) (omega arith) in
-      ((names_of k j r.child (omega (arith, first, e)) h.0.link, tells_of k j r (omega (arith, first, e)) h.0.tally), all_name k (suc j) rs (omega (arith, more, e)) h.1)
+      ((names_of k j r.child (omega (arith, first, e)) h.0.link, tells_of k j r (omega (arith, first, e)) h.0.tally, λ live_one. h.0.ends (only_spot live_one.0 k j live_one.1).0), all_name k (suc j) rs (omega (arith, more, e)) h.1)
 
   family_of : (k j : ℕ) (rs : List Reference) → end fan (suc k) j ≤ leaves → LastChildren fan seen v.lo series total k j rs → Family fan v.lo low home total k j rs
   family_of k j rs e h =
       let n = length rs in
-      let size : n ≤ suc j * fan = omega (arith, h.most, times_le 1 (suc j) fan (omega arith)) in
-      let all : (suc j * fan - n) + n ≡ suc j * fan = omega (arith, size) in
-      let stop : ((suc j * fan - n) + n) * fan ^ k ≡ end fan (suc k) j = ap (λ (x : ℕ). x * fan ^ k) all ∙ sym (power_up fan k (suc j)) in
+      let stop : ((suc j * fan - n) + n) * fan ^ k ≡ end fan (suc k) j = family_stop fan k j n h.most in
       record {
         some = h.some;
         most = h.most;
@@ -204,9 +209,7 @@ module _ (fan : ℕ) (v : Volumes) (seen : Seen) (series leaves : ℕ) (total : 
   last_children : (k j : ℕ) (rs : List Reference) → end fan (suc k) j ≤ leaves → Family fan v.lo low home total k j rs → LastChildren fan seen v.lo series total k j rs
   last_children k j rs e h =
       let n = length rs in
-      let size : n ≤ suc j * fan = omega (arith, h.most, times_le 1 (suc j) fan (omega arith)) in
-      let all : (suc j * fan - n) + n ≡ suc j * fan = omega (arith, size) in
-      let stop : ((suc j * fan - n) + n) * fan ^ k ≡ end fan (suc k) j = ap (λ (x : ℕ). x * fan ^ k) all ∙ sym (power_up fan k (suc j)) in
+      let stop : ((suc j * fan - n) + n) * fan ^ k ≡ end fan (suc k) j = family_stop fan k j n h.most in
       record {
         some = h.some;
         most = h.most;
@@ -234,7 +237,7 @@ module _ (fan : ℕ) (v : Volumes) (seen : Seen) (series leaves : ℕ) (total : 
   tree_of : ((at : ℕ) (node : Node) → seen at ≡ Some node → node.series ≡ series → ElderNames seen v.lo series node.level node.number node.elder)
       → ((at : ℕ) (node : Node) → seen at ≡ Some node → node.series ≡ series → Content fan seen v.lo series total node.level node)
       → ((k : ℕ) → ElderNames seen v.lo series k (made fan k leaves) (rescue k))
-      → IsTree fan v.lo series low leaves home total rescue seen
+      → IsTree fan v.lo series low leaves home total rescue (reads_of seen)
   tree_of elders contents points = record {
     fits = fits;
     nodes = λ k j l e.
@@ -256,7 +259,7 @@ module _ (fan : ℕ) (v : Volumes) (seen : Seen) (series leaves : ℕ) (total : 
   }
 
   -- and back
-  module _ (tree : IsTree fan v.lo series low leaves home total rescue seen) where
+  module _ (tree : IsTree fan v.lo series low leaves home total rescue (reads_of seen)) where
     held : (at : ℕ) (node : Node) → seen at ≡ Some node → node.series ≡ series → Holds seen at series node.level node.number
     held at node read of = record { node = node; read = read; of_series = of; of_level = refl; numbered = refl }
 
@@ -333,7 +336,7 @@ scan_leaves : (seen : Seen) (s o : ℕ) (fills : List ℕ) → Each (Leaf seen s
 scan_leaves seen s o [] = tt
 scan_leaves seen s o (fill ∷ fills) = each_append (Leaf seen s) (row seen s (o * width) fill) (scan_from seen s (suc o) fills) (row_leaves seen s (o * width) fill) (scan_leaves seen s (suc o) fills)
 
-module _ (fan : ℕ) (v : Volumes) (seen : Seen) (series leaves : ℕ) (total : ℕ → ℕ → ℕ) (rescue : ℕ → ℕ) (two : 1 < fan) (few : leaves < fan ^ 11)
+module _ (fan : ℕ) (v : Volumes) (seen : Seen) (series leaves : ℕ) (total : ℕ → ℕ → Summary) (rescue : ℕ → ℕ) (two : 1 < fan) (few : leaves < fan ^ 11)
     (only : (at : ℕ) (node : Node) → seen at ≡ Some node → live v at ≡ true) (whole : IsWhole fan seen) where
   -- what the blocks say is what the numbers say
   pub series_of : IsWrittenSeries fan v seen series leaves total rescue → IsSeries fan v seen series leaves total rescue

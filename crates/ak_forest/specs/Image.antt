@@ -1,7 +1,8 @@
 -- A whole image: volumes, a record, and what each block spells.
 use Rattle.std.specs.Prelude.{◌≡◌, ℕ, zero, suc, ◌+◌, ◌-◌, ◌*◌, ◌/◌, ◌%◌, ◌<◌, ◌≤◌, ◌==◌, nat_le, nat_lt, ◌&&◌, Bool, true, if◌then◌else◌, List, [], ◌∷◌, ◌++◌, map, get_or, Option, Some, None}
 use Rattle.ak_forest.specs.Numbers.{made, between, carry}
-use Rattle.ak_forest.specs.Tree.{Seen, Node, IsTree, width}
+use Rattle.ak_forest.specs.Tree.{Seen, Node, IsTree, reads_of, width}
+use Rattle.ak_summary.specs.declared.summary.Summary.{Summary}
 
 -- the live ordinals: the least one and the fill of each
 pub record Volumes : Type 0 where
@@ -49,14 +50,14 @@ pub record IsWhole (fan : ℕ) (seen : Seen) : Type 0 where
       × ((number : ℕ) × Holds seen (at - node.level) node.series 0 number × (node.level ≤ carry fan number))
 
 -- The live leaves of a series in order of address have consecutive numbers, the last being the leaf count less 1; with home they are its tree.
-pub record IsSeries (fan : ℕ) (v : Volumes) (seen : Seen) (series leaves : ℕ) (total : ℕ → ℕ → ℕ) (rescue : ℕ → ℕ) : Type 0 where
+pub record IsSeries (fan : ℕ) (v : Volumes) (seen : Seen) (series leaves : ℕ) (total : ℕ → ℕ → Summary) (rescue : ℕ → ℕ) : Type 0 where
   pub low : ℕ
   pub home : ℕ → ℕ
   pub scanned : scan_of v seen series ≡ map home (between low leaves)
-  pub tree : IsTree fan v.lo series low leaves home total rescue seen
+  pub tree : IsTree fan v.lo series low leaves home total rescue (reads_of seen)
 
 -- a sound image, as the record and the live blocks are
-pub record IsSound (fan count : ℕ) (leaves : ℕ → ℕ) (rescue : ℕ → ℕ → ℕ) (total : ℕ → ℕ → ℕ → ℕ) (v : Volumes) (seen : Seen) : Type 0 where
+pub record IsSound (fan count : ℕ) (leaves : ℕ → ℕ) (rescue : ℕ → ℕ → ℕ) (total : ℕ → ℕ → ℕ → Summary) (v : Volumes) (seen : Seen) : Type 0 where
   pub small : (i : ℕ) → get_or v.fills i 0 < width
   pub spelled : (at : ℕ) → live v at ≡ true → (node : Node) × (seen at ≡ Some node) × (node.series < count)
   pub whole : IsWhole fan seen

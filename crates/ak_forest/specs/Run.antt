@@ -1,6 +1,8 @@
 -- One series written leaf by leaf, to be computed.
 use Rattle.std.specs.Prelude.{ℕ, zero, suc, ◌+◌, ◌-◌, ◌*◌, ◌==◌, nat_le, nat_lt, if◌then◌else◌, List, [], ◌∷◌, ◌++◌, length, get_or, drop, Option, Some, None}
 use Rattle.ak_forest.specs.Numbers.{made, carry}
+use Rattle.ak_summary.specs.Folds.{no_summary}
+use Rattle.ak_summary.specs.declared.summary.Summary.{Summary}
 use Rattle.ak_forest.specs.Tree.{Seen, Node, Reference, width, none, found_in, pending}
 use Rattle.ak_forest.specs.Image.{Volumes, seen_of}
 
@@ -23,6 +25,13 @@ seen_in s = seen_of s.volumes (at_in s.disk)
 abbrev pub point : List ℕ → ℕ → ℕ
 point points k = get_or points k none
 
+-- summaries that count alone
+abbrev pub one : Summary
+one = record no_summary { count = 1 }
+
+abbrev pub added : Summary → Summary → Summary
+added a b = record no_summary { count = a.count + b.count; end = b.end }
+
 abbrev pub Levels : Type 0
 Levels = List (ℕ × Node) × List ℕ × List (List Reference)
 
@@ -31,13 +40,13 @@ abbrev pub group : ℕ → ℕ → ℕ → ℕ → ℕ → List Reference → Li
 group fan zero k m at takes [] waiting disk = (disk, [], waiting)
 group fan zero k m at takes (p ∷ points) [] disk = (disk, p ∷ points, [])
 group fan zero k m at takes (p ∷ points) (w ∷ waiting) disk =
-    let node : Node = record { series = 0; level = k; number = made fan k m; elder = p; references = takes; value = 1 } in
-    ((at + k, node) ∷ disk, (at + k) ∷ points, (w ++ found_in ◌+◌ k (at + k) node ∷ []) ∷ waiting)
+    let node : Node = record { series = 0; level = k; number = made fan k m; elder = p; references = takes; value = one } in
+    ((at + k, node) ∷ disk, (at + k) ∷ points, (w ++ found_in added k (at + k) node ∷ []) ∷ waiting)
 group fan (suc c) k m at takes [] waiting disk = (disk, [], waiting)
 group fan (suc c) k m at takes (p ∷ points) [] disk = (disk, p ∷ points, [])
 group fan (suc c) k m at takes (p ∷ points) (w ∷ waiting) disk =
-    let node : Node = record { series = 0; level = k; number = made fan k m; elder = p; references = takes; value = 1 } in
-    let rest = group fan c (suc k) m at (w ++ found_in ◌+◌ k (at + k) node ∷ []) points waiting ((at + k, node) ∷ disk) in
+    let node : Node = record { series = 0; level = k; number = made fan k m; elder = p; references = takes; value = one } in
+    let rest = group fan c (suc k) m at (w ++ found_in added k (at + k) node ∷ []) points waiting ((at + k, node) ∷ disk) in
     (rest.0, (at + k) ∷ rest.1, [] ∷ rest.2)
 
 -- the last fill, and the fills with that many more blocks in the last

@@ -1,7 +1,8 @@
 -- A series of an image in the words of the blocks: nothing is said by the number of the first live leaf.
-use Rattle.std.specs.Prelude.{◌≡◌, ◌⊎◌, ℕ, zero, suc, ◌+◌, ◌-◌, ◌*◌, ◌^◌, ◌<◌, ◌≤◌, List, [], ◌∷◌, length, map, get_or, ⊤, Some, None, true}
+use Rattle.std.specs.Prelude.{◌≡◌, ◌⊎◌, ℕ, zero, suc, ◌+◌, ◌-◌, ◌*◌, ◌^◌, ◌<◌, ◌≤◌, List, [], ◌∷◌, length, map, get_or, pred, ⊤, Some, None, true}
 use Rattle.ak_forest.specs.Numbers.{made, end, between, carry}
 use Rattle.ak_forest.specs.Tree.{Seen, Node, Reference, none, width}
+use Rattle.ak_summary.specs.declared.summary.Summary.{Summary}
 use Rattle.ak_forest.specs.Image.{Volumes, live, seen_of, scan_of, Holds, IsWhole, IsSeries}
 
 -- the number that the block at an address gives
@@ -21,7 +22,7 @@ ElderNames seen lo series k zero at = at ≡ none
 ElderNames seen lo series k (suc j) at = Names seen lo series k j at
 
 -- The first leaf of a reference to node j of level k is live, each earlier leaf of the subtree is dead, and the summary is that from it to the end;
-pub record Starts (fan : ℕ) (seen : Seen) (series : ℕ) (total : ℕ → ℕ → ℕ) (k j : ℕ) (r : Reference) : Type 0 where
+pub record Starts (fan : ℕ) (seen : Seen) (series : ℕ) (total : ℕ → ℕ → Summary) (k j : ℕ) (r : Reference) : Type 0 where
   pub number : ℕ
   pub within : (j * fan ^ k ≤ number) × (number < end fan k j)
   pub here : Holds seen r.first series 0 number
@@ -29,24 +30,28 @@ pub record Starts (fan : ℕ) (seen : Seen) (series : ℕ) (total : ℕ → ℕ 
   pub worth : r.summary ≡ total number (end fan k j)
 
 -- or it is dead, and the leaf of the least number in the subtree isn't live
-abbrev pub Tells : ℕ → Seen → ℕ → ℕ → (ℕ → ℕ → ℕ) → ℕ → ℕ → Reference → Type 0
+abbrev pub Tells : ℕ → Seen → ℕ → ℕ → (ℕ → ℕ → Summary) → ℕ → ℕ → Reference → Type 0
 Tells fan seen lo series total k j r = Starts fan seen series total k j r ⊎ ((r.first < lo * width) × (IsLive seen series 0 (j * fan ^ k) → ⊥))
 
-abbrev pub AllName : ℕ → Seen → ℕ → ℕ → (ℕ → ℕ → ℕ) → ℕ → ℕ → List Reference → Type 0
-AllName fan seen lo series total k j [] = ⊤
-AllName fan seen lo series total k j (r ∷ rs) = (Names seen lo series k j r.child × Tells fan seen lo series total k j r) × AllName fan seen lo series total k (suc j) rs
+-- where the node is live, the summary ends with the last leaf of the subtree
+abbrev pub Ends : ℕ → Seen → ℕ → (ℕ → ℕ → Summary) → ℕ → ℕ → Reference → Type 0
+Ends fan seen series total k j r = IsLive seen series k j → r.summary.end ≡ (total (pred (end fan k j)) (end fan k j)).end
 
-pub record LastChildren (fan : ℕ) (seen : Seen) (lo series : ℕ) (total : ℕ → ℕ → ℕ) (k j : ℕ) (references : List Reference) : Type 0 where
+abbrev pub AllName : ℕ → Seen → ℕ → ℕ → (ℕ → ℕ → Summary) → ℕ → ℕ → List Reference → Type 0
+AllName fan seen lo series total k j [] = ⊤
+AllName fan seen lo series total k j (r ∷ rs) = (Names seen lo series k j r.child × Tells fan seen lo series total k j r × Ends fan seen series total k j r) × AllName fan seen lo series total k (suc j) rs
+
+pub record LastChildren (fan : ℕ) (seen : Seen) (lo series : ℕ) (total : ℕ → ℕ → Summary) (k j : ℕ) (references : List Reference) : Type 0 where
   pub some : 0 < length references
   pub most : length references ≤ fan
   pub each : AllName fan seen lo series total k (suc j * fan - length references) references
   pub before : (c i : ℕ) → j * fan ≤ c → c < suc j * fan - length references → c * fan ^ k ≤ i → i < end fan k c → IsLive seen series 0 i → ⊥
 
-abbrev pub Content : ℕ → Seen → ℕ → ℕ → (ℕ → ℕ → ℕ) → ℕ → Node → Type 0
+abbrev pub Content : ℕ → Seen → ℕ → ℕ → (ℕ → ℕ → Summary) → ℕ → Node → Type 0
 Content fan seen lo series total zero node = (node.references ≡ []) × (node.value ≡ total node.number (suc node.number))
 Content fan seen lo series total (suc k) node = LastChildren fan seen lo series total k node.number node.references
 
-pub record IsWrittenSeries (fan : ℕ) (v : Volumes) (seen : Seen) (series leaves : ℕ) (total : ℕ → ℕ → ℕ) (rescue : ℕ → ℕ) : Type 0 where
+pub record IsWrittenSeries (fan : ℕ) (v : Volumes) (seen : Seen) (series leaves : ℕ) (total : ℕ → ℕ → Summary) (rescue : ℕ → ℕ) : Type 0 where
   -- the live leaves in order of address have consecutive numbers, the last being the leaf count less 1
   pub low : ℕ
   pub fits : low ≤ leaves
@@ -59,7 +64,7 @@ pub record IsWrittenSeries (fan : ℕ) (v : Volumes) (seen : Seen) (series leave
 
 -- the two readings of a series are one
 abbrev pub SameSaid : Type 0
-SameSaid = (fan : ℕ) (v : Volumes) (seen : Seen) (series leaves : ℕ) (total : ℕ → ℕ → ℕ) (rescue : ℕ → ℕ) → 1 < fan → leaves < fan ^ 11
+SameSaid = (fan : ℕ) (v : Volumes) (seen : Seen) (series leaves : ℕ) (total : ℕ → ℕ → Summary) (rescue : ℕ → ℕ) → 1 < fan → leaves < fan ^ 11
     → ((at : ℕ) (node : Node) → seen at ≡ Some node → live v at ≡ true) → IsWhole fan seen
     → (IsWrittenSeries fan v seen series leaves total rescue → IsSeries fan v seen series leaves total rescue)
     × (IsSeries fan v seen series leaves total rescue → IsWrittenSeries fan v seen series leaves total rescue)
