@@ -1,4 +1,4 @@
--- What a reader reaches, and what it answers of a leaf.
+-- What a reader reaches, why it can't read a node, and what it answers of a leaf.
 use Rattle.std.specs.Prelude.{ℕ, ◌≡◌, List}
 use Rattle.ak_base.specs.declared.point.Addr.{Addr}
 use Rattle.ak_base.specs.declared.point.Point.{Point}
@@ -30,15 +30,19 @@ pub record SpellsAsked (block : List ℕ) (a : Addr) (series number : ℕ) (h : 
 abbrev pub SpellsNone : List ℕ → Addr → ℕ → ℕ → Type 0
 SpellsNone block a series number = (h : Head) (ps : List Point) → ¬ SpellsAsked block a series number h ps
 
+-- Why a node can't be read: the read failed; the block that is told, which is the one at the address, is no such node.
+abbrev pub IsNodeStop : Type 0 → (List ℕ → Type 0) → Ordinals → HostState → HostState → Addr → Stop → Type 0
+IsNodeStop told none o old new a Disk = Rose old.disk_faults new.disk_faults
+IsNodeStop told none o old new a (Damaged file block) = (file ≡ file_of o (ordinal_of a.0)) × (block ≡ index_of a.0)
+    × (told → none (seen_in o.volumes old.files a.0))
+IsNodeStop told none o old new a Usage = ⊥
+IsNodeStop told none o old new a Port = ⊥
+IsNodeStop told none o old new a Memory = ⊥
+IsNodeStop told none o old new a Budget = ⊥
+IsNodeStop told none o old new a (Worn ordinal fill last) = ⊥
+IsNodeStop told none o old new a NoStore = ⊥
+IsNodeStop told none o old new a Exists = ⊥
+
 -- Why a leaf can't be read: the read failed; the block that is told, which is the one at the address, spells no such leaf.
 abbrev pub IsLeafStop : Type 0 → Ordinals → HostState → HostState → Addr → ℕ → ℕ → Stop → Type 0
-IsLeafStop told o old new a series number Disk = Rose old.disk_faults new.disk_faults
-IsLeafStop told o old new a series number (Damaged file block) = (file ≡ file_of o (ordinal_of a.0)) × (block ≡ index_of a.0)
-    × (told → SpellsNone (seen_in o.volumes old.files a.0) a series number)
-IsLeafStop told o old new a series number Usage = ⊥
-IsLeafStop told o old new a series number Port = ⊥
-IsLeafStop told o old new a series number Memory = ⊥
-IsLeafStop told o old new a series number Budget = ⊥
-IsLeafStop told o old new a series number (Worn ordinal fill last) = ⊥
-IsLeafStop told o old new a series number NoStore = ⊥
-IsLeafStop told o old new a series number Exists = ⊥
+IsLeafStop told o old new a series number = IsNodeStop told (λ block. SpellsNone block a series number) o old new a

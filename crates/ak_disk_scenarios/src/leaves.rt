@@ -16,7 +16,7 @@ use std::process::Abort;
 use std::test::Fail;
 
 // Index 2 of ordinal 1, which stands in file 2.
-const PLACE: Addr = Addr(0x1_0000_0002);
+pub(crate) const PLACE: Addr = Addr(0x1_0000_0002);
 
 const HEAD: Head = Head {
     kind: Head::LEAF,
@@ -30,7 +30,7 @@ const HEAD: Head = Head {
 };
 
 // The block with that head of the point (100, 5), byte by byte.
-fn leaf() -> Block {
+pub(crate) fn leaf() -> Block {
     let mut block = [0; 4096];
     block[0] = 1;
     block[2] = 1;
@@ -47,14 +47,14 @@ fn leaf() -> Block {
 }
 
 // Two volumes of 16 blocks are there.
-fn are_there<D: Disk>(disk: &D) -> bool
+pub(crate) fn are_there<D: Disk>(disk: &D) -> bool
     ensures { result ≡ true → AreThere (ordinals 2 16 0 (16 ∷ 3 ∷ [])) (D.state disk.now) }
 {
     disk.files() == 3 && disk.blocks(1) == 16 && disk.blocks(2) == 16
 }
 
 // A host with two volumes of 16 blocks, whose calls with these numbers fail, from 0 on.
-fn host<R: Abort>(rt: &R, alloc: Global, fails: &[u64]) -> Result<MemHost, Fail> {
+pub(crate) fn host<R: Abort>(rt: &R, alloc: Global, fails: &[u64]) -> Result<MemHost, Fail> {
     let mut host = MemHost::new(alloc, &[], fails)?;
     for file in 0..3 {
         assert!(rt; make(&mut host, file, 16));

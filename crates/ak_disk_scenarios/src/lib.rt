@@ -1,5 +1,5 @@
 //! Tests that cross the crates of the disk, over a host in memory: records that are opened, stores that are
-//! made, leaves that are read, and forests that close leaves.
+//! made, leaves and inner nodes that are read, and forests that close leaves.
 #![tactic(auto)]
 
 #[cfg(test)]
@@ -8,6 +8,8 @@ mod disk;
 mod forests;
 #[cfg(test)]
 mod leaves;
+#[cfg(test)]
+mod nodes;
 #[cfg(test)]
 mod records;
 #[cfg(test)]
