@@ -8,6 +8,7 @@ ghost use Rattle.ak_tree.specs.Standing.{IsReady};
 use ak_base::{Limits, Point, Stop, Text};
 use ak_checkpoint::make_store;
 use ak_host::Disk;
+use ak_levels::LevelsList;
 use ak_memhost::MemHost;
 use ak_meta::SeriesMeta;
 use ak_names::read_names;
@@ -53,7 +54,7 @@ pub(crate) fn made<D: Disk>(alloc: Global, disk: &mut D, limits: &Limits) -> Opt
     let Ok((meta, check)) = make_store(alloc, disk, limits) else {
         return None;
     };
-    match Forest::new(alloc, meta, check) {
+    match Forest::new(alloc, meta, LevelsList::new(alloc), check) {
         Ok(forest) => Some(forest),
         Err(_) => None,
     }
@@ -166,6 +167,14 @@ fn leaf<D: Disk>(alloc: Global, forest: &mut Forest, disk: &mut D, ts: u64) -> R
     forest.close_all(alloc, disk)
 }
 
+// The same. Whether it was closed.
+fn closed<D: Disk>(alloc: Global, forest: &mut Forest, disk: &mut D, ts: u64) -> bool
+    requires { IsReady D.tells forest.old (D.state disk.old) }
+    ensures { result ≡ true → IsReady D.tells forest.new (D.state disk.new) }
+{
+    leaf(alloc, forest, disk, ts).is_ok()
+}
+
 // So many leaves. Whether all were closed.
 fn leaves<D: Disk>(alloc: Global, forest: &mut Forest, disk: &mut D, count: u64) -> bool
     requires { IsReady D.tells forest.old (D.state disk.old) }
@@ -189,6 +198,24 @@ fn series_of(forest: &Forest, series: u32) -> (bool, u64) {
         forest.open_leaf(series).is_some(),
         all[series as usize].leaves,
     )
+}
+
+// What a query sees of a series: how many leaves, and how many references wait at the first two levels.
+pub(crate) fn waiting(forest: &Forest, series: u32) -> (u64, usize, usize) {
+    if series as usize >= forest.meta().series().len() {
+        return (0, 0, 0);
+    }
+    let entry = forest.entry(series);
+    (
+        entry.leaves,
+        entry.levels.pending(0).len(),
+        entry.levels.pending(1).len(),
+    )
+}
+
+// Whether a query sees an open leaf of a series.
+fn forest_has_tail(forest: &Forest, series: u32) -> bool {
+    (series as usize) < forest.meta().series().len() && forest.entry(series).tail.is_some()
 }
 
 // The newest ordinal and its fill.
@@ -299,7 +326,7 @@ fn the_oldest_leaf_is_closed(rt: HostRuntime) -> Result<(), Fail> {
     Ok(())
 }
 
-// The group of leaf 31 has a block more, of zeros.
+// The group of leaf 31 has an inner node behind it: 32 references go into it, and the one to it waits at level 1.
 #[test]
 fn a_group_is_written(rt: HostRuntime) -> Result<(), Fail> {
     let alloc = rt.alloc();
@@ -313,9 +340,14 @@ fn a_group_is_written(rt: HostRuntime) -> Result<(), Fail> {
     assert!(rt; leaves(alloc, &mut forest, &mut host, 31));
     assert_eq!(rt; host.writes().saturating_sub(before), 31);
     assert_eq!(rt; place(&forest), (0, 31));
-    assert!(rt; leaf(alloc, &mut forest, &mut host, 31).is_ok());
+    assert!(rt; closed(alloc, &mut forest, &mut host, 31));
     assert_eq!(rt; host.writes().saturating_sub(before), 33);
     assert_eq!(rt; place(&forest), (0, 33));
+    assert_eq!(rt; waiting(&forest, 0), (32, 0, 1));
+    assert!(rt; put(alloc, &mut forest, &mut host, 0, (32, 7)));
+    assert!(rt; forest_has_tail(&forest, 0));
+    assert!(rt; closed(alloc, &mut forest, &mut host, 33));
+    assert_eq!(rt; waiting(&forest, 0), (33, 1, 1));
     Ok(())
 }
 

@@ -1,17 +1,23 @@
 -- The same blocks at the live addresses hold the same leaves.
-use Rattle.std.proofs.Common.{◌≡◌, ℕ, zero, suc, ◌+◌, List, [], ◌∷◌, length, inl, inr, sym, subst, ◌∙◌, arith}
+use Rattle.std.proofs.Common.{◌≡◌, ℕ, zero, suc, ◌+◌, ◌-◌, List, [], ◌∷◌, length, inl, inr, refl, sym, subst, arith}
 use Rattle.ak_image.specs.Blocks.{Seen}
 use Rattle.ak_image.specs.Chains.{AreLinked, IsChain}
-use Rattle.ak_image.specs.Groups.{Group, AreZeros, AreGroups, AreRows}
-use Rattle.ak_image.specs.Images.{AreScans, AreChains, AreSound}
+use Rattle.ak_forest.proofs.Open.{tree_kept}
+use Rattle.ak_forest.specs.Tree.{Node, IsTree}
+use Rattle.ak_image.specs.Groups.{Group, AreInner, AreGroups, AreRows}
+use Rattle.ak_image.specs.Images.{AreScans, AreGrown, AreSound}
 use Rattle.ak_image.specs.Laid.{AreLaid, IsLaid}
+use Rattle.ak_image.specs.Nodes.{IsInnerOf, IsNodeAt, Reads}
 use Rattle.ak_image.specs.Scans.{IsLeafOf, IsFound, AreFound, IsScan}
+use Rattle.ak_image.specs.Trees.{IsTreeOf, AreTreed, total_of, point_of}
+use Rattle.ak_inner.specs.Nodes.{SpellsInner}
 use Rattle.ak_leaf.specs.Leaf.{SpellsLeaf}
 use Rattle.ak_levels.specs.Carries.{carry_of}
 use Rattle.ak_meta.specs.Contents.{Content, IsMeta, rescue_at}
 use Rattle.ak_meta.specs.declared.meta.SeriesMeta.{SeriesMeta}
-use Rattle.ak_volumes.specs.Ordinals.{IsLive, address}
+use Rattle.ak_volumes.specs.Ordinals.{Ordinals, AreOrdinals, IsLive, address}
 use Rattle.ak_world.specs.Leaves.{Leaf}
+use Rattle.ak_world.specs.Views.{address_of}
 use Rattle.ak_image.proofs.Places.{InRow, InRows, AtEach, row_head, row_rest, row_front, row_back, live_rows, scan_at}
 
 -- the same block in both
@@ -75,9 +81,40 @@ chain_same seen other lo series known leaves same chain = record {
   last = chain.last;
 }
 
-pub zeros_same : (seen other : Seen) (count a : ℕ) → InRow (Same seen other) count a → AreZeros seen count a → AreZeros other count a
-zeros_same seen other zero a same are = tt
-zeros_same seen other (suc count) a same are = (row_head (Same seen other) count a same ∙ are.0, zeros_same seen other count (a + 1) (row_rest (Same seen other) count a same) are.1)
+pub inner_same : (seen other : Seen) (a : ℕ) (node : Node) → Same seen other a → IsInnerOf seen a node → IsInnerOf other a node
+inner_same seen other a node same is = record {
+  head = is.head;
+  refs = is.refs;
+  spells = subst (λ (block : List ℕ). SpellsInner block is.head is.refs) (sym same) is.spells;
+  level_is = is.level_is;
+  series_is = is.series_is;
+  number_is = is.number_is;
+  address_is = is.address_is;
+  elder_is = is.elder_is;
+  references_are = is.references_are;
+}
+
+pub node_same : (seen other : Seen) (a : ℕ) (node : Node) → Same seen other a → IsNodeAt seen a node → IsNodeAt other a node
+node_same seen other a node same (inl is) = inl record {
+  level_is = is.level_is;
+  leaf = is.leaf;
+  at = is.at;
+  number_is = is.number_is;
+  is = leaf_same seen other node.series node.elder is.leaf (subst (Same seen other) (sym is.at) same) is.is;
+  value_is = is.value_is;
+  none = is.none;
+}
+node_same seen other a node same (inr is) = inr (inner_same seen other a node same is)
+
+-- the inner nodes of a group
+pub all_inner_same : (seen other : Seen) (series m a : ℕ) → InRow (Same seen other) (1 + carry_of m) a → AreInner seen series m a → AreInner other series m a
+all_inner_same seen other series m a same are = λ level from to. let one = are level from to in record {
+  node = one.node;
+  is = inner_same seen other (a + level) one.node (same (a + level) (omega arith) (omega (arith, to))) one.is;
+  series_is = one.series_is;
+  level_is = one.level_is;
+  number_is = one.number_is;
+}
 
 pub groups_same : (seen other : Seen) (known count a : ℕ) (groups : List Group) → InRow (Same seen other) count a → AreGroups seen known count a groups → AreGroups other known count a groups
 groups_same seen other known count a [] same are = are
@@ -89,7 +126,7 @@ groups_same seen other known count a (g ∷ groups) same are =
       are.0,
       are.1,
       leaf_same seen other g.series g.elder g.leaf (subst (Same seen other) (sym are.1) first) are.2,
-      zeros_same seen other (carry_of g.leaf.number) (a + 1) (row_back (Same seen other) 1 (carry_of g.leaf.number) a group) are.3,
+      all_inner_same seen other g.series g.leaf.number a group are.3,
       are.4,
       are.5,
       groups_same seen other known are.4 (a + size) groups (row_back (Same seen other) size are.4 a whole) are.6,
@@ -100,24 +137,27 @@ rows_same seen other known ordinal [] same are = tt
 rows_same seen other known ordinal (fill ∷ fills) same are =
     ((are.0.0, groups_same seen other known fill (address ordinal 0) are.0.0 same.0 are.0.1), rows_same seen other known (suc ordinal) fills same.1 are.1)
 
+-- trees where the live blocks stay live and stay the same
+module _ (o p : Ordinals) (seen other : Seen) (lo : o.lo ≡ p.lo) (live : (a : ℕ) → IsLive o a → IsLive p a) (same : (a : ℕ) → IsLive o a → Same seen other a) where
+  reads_same : (a : ℕ) (node : Node) → Reads o seen a node → Reads p other a node
+  reads_same a node reads = (live a reads.0, node_same seen other a node (same a reads.0) reads.1)
+
+  pub tree_same : (series : ℕ) (known : SeriesMeta) (leaves : List Leaf) → IsTreeOf o seen series known leaves → IsTreeOf p other series known leaves
+  tree_same series known leaves tree =
+      subst (λ (n : ℕ). IsTree 32 n series (known.leaves - length leaves) known.leaves (address_of leaves) (total_of leaves) (point_of known.rescue) (Reads p other)) lo
+      (tree_kept 32 o.lo series (known.leaves - length leaves) known.leaves (address_of leaves) (point_of known.rescue) (total_of leaves) (Reads o seen) (Reads p other) reads_same tree)
+
+  pub trees_same : (series : ℕ) (all : List SeriesMeta) (kept : List (List Leaf)) → AreTreed o seen series all kept → AreTreed p other series all kept
+  trees_same series [] kept are = tt
+  trees_same series (known ∷ all) [] are = absurd are
+  trees_same series (known ∷ all) (leaves ∷ kept) are = (tree_same series known leaves are.0, trees_same (suc series) all kept are.1)
+
 -- of all series
 module _ (seen other : Seen) (lo : ℕ) (fills : List ℕ) (same : InRows (Same seen other) lo fills) where
   pub scans_same : (series : ℕ) (all : List SeriesMeta) (kept : List (List Leaf)) → AreScans seen lo fills series all kept → AreScans other lo fills series all kept
   scans_same series [] kept are = are
   scans_same series (known ∷ all) kept are =
       (are.0, are.1, are.2, scan_same seen other series lo fills are.0 same are.3, scans_same (suc series) all are.1 are.4)
-
-  pub chains_same : (series : ℕ) (all : List SeriesMeta) → AreChains seen lo fills series all → AreChains other lo fills series all
-  chains_same series [] are = tt
-  chains_same series (known ∷ all) are =
-      let leaves : List Leaf = are.0.0 in (
-        (
-          leaves,
-          scan_same seen other series lo fills leaves same are.0.1,
-          chain_same seen other lo series known leaves (scan_at (Same seen other) seen series lo fills leaves same are.0.1) are.0.2,
-        ),
-        chains_same (suc series) all are.1,
-      )
 
   pub all_laid_same : (series : ℕ) (all : List SeriesMeta) (kept : List (List Leaf)) → AreLaid seen lo fills series all kept → AreLaid other lo fills series all kept
   all_laid_same series [] kept are = are
@@ -130,17 +170,35 @@ module _ (seen other : Seen) (lo : ℕ) (fills : List ℕ) (same : InRows (Same 
     all_laid_same (suc series) all are.1 are.5,
   )
 
-pub sound_same : (seen other : Seen) (c : Content) → InRows (Same seen other) c.ordinals.lo c.ordinals.fills → AreSound seen c → AreSound other c
-sound_same seen other c same are = record {
-  rows = rows_same seen other (length c.series) c.ordinals.lo c.ordinals.fills same are.rows;
-  chains = chains_same seen other c.ordinals.lo c.ordinals.fills same 0 c.series are.chains;
-}
+-- by the ordinals of a record
+module _ (seen other : Seen) (o : Ordinals) (are : AreOrdinals o) (live : (a : ℕ) → IsLive o a → Same seen other a) where
+  same_rows : InRows (Same seen other) o.lo o.fills
+  same_rows = live_rows o (Same seen other) are live
 
-pub laid_same : (seen other : Seen) (c : Content) (kept : List (List Leaf)) → InRows (Same seen other) c.ordinals.lo c.ordinals.fills → IsLaid seen c kept → IsLaid other c kept
-laid_same seen other c kept same is = record {
-  rows = rows_same seen other (length c.series) c.ordinals.lo c.ordinals.fills same is.rows;
-  leaves = all_laid_same seen other c.ordinals.lo c.ordinals.fills same 0 c.series kept is.leaves;
+  pub all_grown_same : (series : ℕ) (all : List SeriesMeta) → AreGrown o seen series all → AreGrown o other series all
+  all_grown_same series [] grown = tt
+  all_grown_same series (known ∷ all) grown =
+      let leaves : List Leaf = grown.0.0 in (
+        (
+          leaves,
+          scan_same seen other series o.lo o.fills leaves same_rows grown.0.1,
+          chain_same seen other o.lo series known leaves (scan_at (Same seen other) seen series o.lo o.fills leaves same_rows grown.0.1) grown.0.2,
+          tree_same o o seen other refl (λ a lives. lives) live series known leaves grown.0.3,
+        ),
+        all_grown_same (suc series) all grown.1,
+      )
+
+pub sound_same : (seen other : Seen) (c : Content) → AreOrdinals c.ordinals → ((a : ℕ) → IsLive c.ordinals a → Same seen other a) → AreSound seen c → AreSound other c
+sound_same seen other c ordinals live are = record {
+  rows = rows_same seen other (length c.series) c.ordinals.lo c.ordinals.fills (live_rows c.ordinals (Same seen other) ordinals live) are.rows;
+  series = all_grown_same seen other c.ordinals ordinals live 0 c.series are.series;
 }
 
 pub laid_agree : (seen other : Seen) (c : Content) (kept : List (List Leaf)) → IsMeta c → IsLaid seen c kept → ((a : ℕ) → IsLive c.ordinals a → other a ≡ seen a) → IsLaid other c kept
-laid_agree seen other c kept meta is live = laid_same seen other c kept (live_rows c.ordinals (Same seen other) meta.ordinals_are live) is
+laid_agree seen other c kept meta is live =
+    let same : InRows (Same seen other) c.ordinals.lo c.ordinals.fills = live_rows c.ordinals (Same seen other) meta.ordinals_are live in
+    record {
+      rows = rows_same seen other (length c.series) c.ordinals.lo c.ordinals.fills same is.rows;
+      leaves = all_laid_same seen other c.ordinals.lo c.ordinals.fills same 0 c.series kept is.leaves;
+      trees = trees_same c.ordinals c.ordinals seen other refl (λ a lives. lives) live 0 c.series kept is.trees;
+    }

@@ -1,4 +1,6 @@
 pub mod Agreeing
+pub mod OneNode
+pub mod OneTree
 pub mod Parting
 pub mod Places
 pub mod Scanning
@@ -8,3 +10,10 @@ pub mod StepChains
 pub mod StepLaid
 pub mod StepRows
 pub mod StepScans
+pub mod StepTrees
+pub mod Growing
+pub mod Refilling
+pub mod Numbered
+pub mod Lifting
+pub mod Rescuing
+pub mod Entering

@@ -7,8 +7,10 @@ use Rattle.ak_gate.specs.declared.half.Half.{Half}
 use Rattle.ak_host.specs.Files.{Files, file_at}
 use Rattle.ak_image.specs.Blocks.{Seen, seen_in, HasVolumes}
 use Rattle.ak_image.specs.Chains.{IsChain}
-use Rattle.ak_image.specs.Images.{AreScans, AreChains, AreSound, IsSound, StandsFor, AreAlike}
+use Rattle.ak_image.specs.Images.{AreScans, AreGrown, AreSound, IsSound, StandsFor, AreAlike}
 use Rattle.ak_image.specs.Laid.{AreLaid, IsLaid}
+use Rattle.ak_image.specs.Trees.{IsTreeOf, AreTreed}
+use Rattle.ak_volumes.specs.Ordinals.{Ordinals}
 use Rattle.ak_meta.proofs.Contents.{one_meta}
 use Rattle.ak_meta.specs.Contents.{Content, IsMeta}
 use Rattle.ak_meta.specs.declared.meta.SeriesMeta.{SeriesMeta}
@@ -46,20 +48,22 @@ size_same disk other same file = sym (get_or-map length disk file []) ∙ ap (λ
 pub volumes_same : (disk other : Files) (volumes blocks : ℕ) → map length disk ≡ map length other → HasVolumes volumes blocks disk → HasVolumes volumes blocks other
 volumes_same disk other volumes blocks same has = λ file from to. subst (λ (n : ℕ). blocks ≤ n) (size_same disk other same file) (has file from to)
 
--- the leaves that are laid out are those of the scans, and they are chains
+-- the leaves that are laid out are those of the scans, and with the trees over them they are sound
 pub laid_scans : (seen : Seen) (lo : ℕ) (fills : List ℕ) (series : ℕ) (all : List SeriesMeta) (kept : List (List Leaf)) → AreLaid seen lo fills series all kept → AreScans seen lo fills series all kept
 laid_scans seen lo fills series [] kept are = are
 laid_scans seen lo fills series (known ∷ all) kept are = (are.0, are.1, are.2, are.3, laid_scans seen lo fills (suc series) all are.1 are.5)
 
-pub laid_chains : (seen : Seen) (lo : ℕ) (fills : List ℕ) (series : ℕ) (all : List SeriesMeta) (kept : List (List Leaf)) → AreLaid seen lo fills series all kept → AreChains seen lo fills series all
-laid_chains seen lo fills series [] kept are = tt
-laid_chains seen lo fills series (known ∷ all) kept are = ((are.0, are.3, are.4), laid_chains seen lo fills (suc series) all are.1 are.5)
+pub laid_grown : (o : Ordinals) (seen : Seen) (series : ℕ) (all : List SeriesMeta) (kept : List (List Leaf)) → AreLaid seen o.lo o.fills series all kept → AreTreed o seen series all kept → AreGrown o seen series all
+laid_grown o seen series [] kept are trees = tt
+laid_grown o seen series (known ∷ all) kept are trees =
+    let both : AreTreed o seen series (known ∷ all) (are.0 ∷ are.1) = subst (AreTreed o seen series (known ∷ all)) are.2 trees in
+    ((are.0, are.3, are.4, both.0), laid_grown o seen (suc series) all are.1 are.5 both.1)
 
--- chains are scans
-pub chains_scanned : (seen : Seen) (lo : ℕ) (fills : List ℕ) (series : ℕ) (all : List SeriesMeta) → AreChains seen lo fills series all → (kept : List (List Leaf)) × AreScans seen lo fills series all kept
-chains_scanned seen lo fills series [] are = ([], refl)
-chains_scanned seen lo fills series (known ∷ all) are =
-    let others = chains_scanned seen lo fills (suc series) all are.1 in
+-- what is sound is scanned
+pub grown_scanned : (o : Ordinals) (seen : Seen) (series : ℕ) (all : List SeriesMeta) → AreGrown o seen series all → (kept : List (List Leaf)) × AreScans seen o.lo o.fills series all kept
+grown_scanned o seen series [] are = ([], refl)
+grown_scanned o seen series (known ∷ all) are =
+    let others = grown_scanned o seen (suc series) all are.1 in
     (are.0.0 ∷ others.0, (are.0.0, others.0, refl, are.0.1, others.1))
 
 -- by the record of its content, a view's number is told and its leaves are the scans
@@ -82,28 +86,34 @@ laid_image disk view is newest volumes laid =
         rules_are = is;
         newest = newest;
         volumes = volumes;
-        blocks = record { rows = laid.rows; chains = laid_chains seen c.ordinals.lo c.ordinals.fills 0 c.series view.kept laid.leaves };
+        blocks = record { rows = laid.rows; series = laid_grown c.ordinals seen 0 c.series view.kept laid.leaves laid.trees };
       },
       record { rules_are = is; newest = newest; scans = laid_scans seen c.ordinals.lo c.ordinals.fills 0 c.series view.kept laid.leaves },
     )
 
--- chains, and what the scans find
-pub chains_laid : (seen : Seen) (lo : ℕ) (fills : List ℕ) (series : ℕ) (all : List SeriesMeta) (kept : List (List Leaf)) → AreChains seen lo fills series all → AreScans seen lo fills series all kept → AreLaid seen lo fills series all kept
-chains_laid seen lo fills series [] kept chains scans = scans
-chains_laid seen lo fills series (known ∷ all) kept chains scans =
-    let same : chains.0.0 ≡ scans.0 = one_scan seen series lo fills chains.0.0 scans.0 chains.0.1 scans.3 in (
+-- what is sound, and what the scans find
+pub grown_laid : (o : Ordinals) (seen : Seen) (series : ℕ) (all : List SeriesMeta) (kept : List (List Leaf)) → AreGrown o seen series all → AreScans seen o.lo o.fills series all kept → AreLaid seen o.lo o.fills series all kept
+grown_laid o seen series [] kept grown scans = scans
+grown_laid o seen series (known ∷ all) kept grown scans =
+    let same : grown.0.0 ≡ scans.0 = one_scan seen series o.lo o.fills grown.0.0 scans.0 grown.0.1 scans.3 in (
       scans.0,
       scans.1,
       scans.2,
       scans.3,
-      subst (IsChain seen lo series known) same chains.0.2,
-      chains_laid seen lo fills (suc series) all scans.1 chains.1 scans.4,
+      subst (IsChain seen o.lo series known) same grown.0.2,
+      grown_laid o seen (suc series) all scans.1 grown.1 scans.4,
     )
+
+pub grown_treed : (o : Ordinals) (seen : Seen) (series : ℕ) (all : List SeriesMeta) (kept : List (List Leaf)) → AreGrown o seen series all → AreScans seen o.lo o.fills series all kept → AreTreed o seen series all kept
+grown_treed o seen series [] kept grown scans = tt
+grown_treed o seen series (known ∷ all) kept grown scans =
+    let same : grown.0.0 ≡ scans.0 = one_scan seen series o.lo o.fills grown.0.0 scans.0 grown.0.1 scans.3 in
+    subst (AreTreed o seen series (known ∷ all)) (sym scans.2) (subst (IsTreeOf o seen series known) same grown.0.3, grown_treed o seen (suc series) all scans.1 grown.1 scans.4)
 
 pub sound_view : (disk : Files) → IsSound disk → (view : View) × StandsFor view disk
 sound_view disk sound =
     let c : Content = sound.content in
-    let scanned = chains_scanned (seen_in c.limits.volumes disk) c.ordinals.lo c.ordinals.fills 0 c.series sound.blocks.chains in (
+    let scanned = grown_scanned c.ordinals (seen_in c.limits.volumes disk) 0 c.series sound.blocks.series in (
       record { number = sound.number; content = sound.content; kept = scanned.0 },
       record { rules_are = sound.rules_are; newest = sound.newest; scans = scanned.1 },
     )
@@ -126,7 +136,8 @@ sound_laid disk view sound stands =
       by.volumes,
       record {
         rows = by.blocks.rows;
-        leaves = chains_laid (seen_in c.limits.volumes disk) c.ordinals.lo c.ordinals.fills 0 c.series view.kept by.blocks.chains stands.scans;
+        leaves = grown_laid c.ordinals (seen_in c.limits.volumes disk) 0 c.series view.kept by.blocks.series stands.scans;
+        trees = grown_treed c.ordinals (seen_in c.limits.volumes disk) 0 c.series view.kept by.blocks.series stands.scans;
       },
     )
 
@@ -152,7 +163,8 @@ sound_alike disk other alike sound =
       rules_are = sound.rules_are;
       newest = newest_same disk other c.limits.slot sound.number c alike.first sound.newest;
       volumes = volumes_same disk other c.limits.volumes c.limits.blocks alike.sizes sound.volumes;
-      blocks = sound_same (seen_in c.limits.volumes disk) (seen_in c.limits.volumes other) c (alike_rows disk other sound.number c alike sound.rules_are sound.newest) sound.blocks;
+      blocks = sound_same (seen_in c.limits.volumes disk) (seen_in c.limits.volumes other) c sound.rules_are.ordinals_are
+          (λ a lives. sym (alike.live sound.number c sound.rules_are sound.newest a lives)) sound.blocks;
     }
 
 pub stands_alike : (disk other : Files) (view : View) → AreAlike disk other → StandsFor view disk → StandsFor view other

@@ -1,32 +1,28 @@
 -- What one block spells, and rows of blocks behind one another.
-use Rattle.std.proofs.Common.{inl, inr, ◌≡◌, ◌≢◌, ◌+◌, ◌%◌, ◌<◌, ◌≤◌, ℕ, zero, suc, List, [], ◌∷◌, ◌++◌, length, get_or, refl, sym, ap, ◌∙◌, subst, arith}
+use Rattle.std.proofs.Common.{inl, inr, ◌≡◌, ◌≢◌, ◌+◌, ◌-◌, ◌%◌, ◌<◌, ◌≤◌, ℕ, zero, suc, List, [], ◌∷◌, ◌++◌, length, get_or, refl, sym, ap, ◌∙◌, subst, arith}
 use Rattle.ak_bytes.specs.Head.{head_fields, head_bytes}
 use Rattle.ak_bytes.specs.declared.head.Head.{Head}
-use Rattle.ak_bytes.proofs.Parts.{zeros_each}
 use Rattle.ak_base.specs.declared.point.Point.{Point}
-use Rattle.ak_host.specs.Files.{zero_block}
 use Rattle.ak_image.specs.Blocks.{Seen}
-use Rattle.ak_image.specs.Groups.{Group, AreZeros, AreGroups}
+use Rattle.ak_image.specs.Groups.{Group, AreInner, AreGroups}
 use Rattle.ak_image.specs.Scans.{IsLeafOf, IsFound, AreFound}
+use Rattle.ak_inner.specs.Nodes.{SpellsInner}
+use Rattle.ak_inner.specs.declared.reference.Ref.{Ref}
 use Rattle.ak_leaf.proofs.Blocks.{one_leaf}
 use Rattle.ak_leaf.specs.Leaf.{SpellsLeaf}
 use Rattle.ak_levels.specs.Carries.{carry_of}
 use Rattle.ak_world.specs.Leaves.{Leaf}
 
--- the first byte of a head, and of zeros
+-- the first byte of a head
 first_of_head : (h : Head) (xs ys : List ℕ) → get_or (head_bytes h ++ xs ++ ys) 0 0 ≡ h.kind % 256
 unfolding head_fields head_bytes
 first_of_head h xs ys = refl
 
-first_of_zeros : get_or zero_block 0 0 ≡ 0
-unfolding zero_block
-first_of_zeros = zeros_each 4096 zero_block refl 0
-
--- a block of zeros spells no leaf
-pub zeros_spell_none : (block : List ℕ) (h : Head) (ps : List Point) → block ≡ zero_block → SpellsLeaf block h ps → ⊥
-zeros_spell_none block h ps zeros s =
-    let first : 0 ≡ h.kind % 256 = sym first_of_zeros ∙ ap (λ (l : List ℕ). get_or l 0 0) (sym zeros ∙ s.spelled) ∙ first_of_head h _ _ in
-    absurd (omega (arith, first, ap (λ (k : ℕ). k % 256) s.head.kind))
+-- a block that spells an inner node spells no leaf
+pub inner_spells_none : (block : List ℕ) (g h : Head) (rs : List Ref) (ps : List Point) → SpellsInner block g rs → SpellsLeaf block h ps → ⊥
+inner_spells_none block g h rs ps i s =
+    let first : g.kind % 256 ≡ h.kind % 256 = sym (first_of_head g _ _) ∙ ap (λ (l : List ℕ). get_or l 0 0) (sym i.spelled ∙ s.spelled) ∙ first_of_head h _ _ in
+    absurd (omega (arith, first, ap (λ (k : ℕ). k % 256) i.of.kind, ap (λ (k : ℕ). k % 256) s.head.kind))
 
 -- a leaf that is spelled has a point
 pub some_points : (seen : Seen) (s e : ℕ) (leaf : Leaf) → IsLeafOf seen s e leaf → 0 < length leaf.points
@@ -56,23 +52,31 @@ found_append seen s (suc m) n a xs ys h k =
     ] in
     subst (λ (c : ℕ). AreFound seen s c a (xs ++ ys)) (let e : suc (m + n) ≡ suc m + n = omega arith in e) whole
 
--- no leaf in zeros
-pub found_zeros : (seen : Seen) (s count a : ℕ) → AreZeros seen count a → AreFound seen s count a []
-found_zeros seen s zero a h = refl
-found_zeros seen s (suc count) a h =
-    inr ((λ leaf f. zeros_spell_none (seen leaf.address) f.is.head leaf.points (ap seen f.at ∙ h.0) f.is.spells), found_zeros seen s count (a + 1) h.1)
+-- no leaf among inner nodes
+found_none : (seen : Seen) (s count a : ℕ) → ((b : ℕ) → a ≤ b → b < a + count → (leaf : Leaf) → ¬ (IsFound seen s b leaf)) → AreFound seen s count a []
+found_none seen s zero a none = refl
+found_none seen s (suc count) a none =
+    inr (none a (omega arith) (omega arith), found_none seen s count (a + 1) (λ b from to. none b (omega (arith, from)) (omega (arith, to))))
+
+pub found_inner : (seen : Seen) (s t m a : ℕ) → AreInner seen t m a → AreFound seen s (carry_of m) (a + 1) []
+found_inner seen s t m a inner =
+    found_none seen s (carry_of m) (a + 1) (λ b from to leaf f.
+    let one = inner (b - a) (omega (arith, from)) (omega (arith, from, to)) in
+    let at : a + (b - a) ≡ leaf.address = omega (arith, from, f.at) in
+    let spells : SpellsInner (seen leaf.address) one.is.head one.is.refs = subst (λ (x : ℕ). SpellsInner (seen x) one.is.head one.is.refs) at one.is.spells in
+    inner_spells_none (seen leaf.address) one.is.head f.is.head one.is.refs leaf.points spells f.is.spells)
 
 -- the leaf of a group alone
-pub found_own : (seen : Seen) (s e z a : ℕ) (leaf : Leaf) → IsLeafOf seen s e leaf → leaf.address ≡ a → AreZeros seen z (a + 1) → AreFound seen s (1 + z) a (leaf ∷ [])
-found_own seen s e z a leaf l at zeros =
-    subst (λ (c : ℕ). AreFound seen s c a (leaf ∷ [])) (let e : suc z ≡ 1 + z = omega arith in e)
-    (inl (leaf, [], record { at = at; elder = e; is = l }, refl, found_zeros seen s z (a + 1) zeros))
+pub found_own : (seen : Seen) (s e a : ℕ) (leaf : Leaf) → IsLeafOf seen s e leaf → leaf.address ≡ a → AreInner seen s leaf.number a → AreFound seen s (1 + carry_of leaf.number) a (leaf ∷ [])
+found_own seen s e a leaf l at inner =
+    subst (λ (c : ℕ). AreFound seen s c a (leaf ∷ [])) (let e : suc (carry_of leaf.number) ≡ 1 + carry_of leaf.number = omega arith in e)
+    (inl (leaf, [], record { at = at; elder = e; is = l }, refl, found_inner seen s s leaf.number a inner))
 
 -- none of another series
-pub found_other : (seen : Seen) (s t e z a : ℕ) (leaf : Leaf) → IsLeafOf seen t e leaf → t ≢ s → leaf.address ≡ a → AreZeros seen z (a + 1) → AreFound seen s (1 + z) a []
-found_other seen s t e z a leaf l apart at zeros =
-    subst (λ (c : ℕ). AreFound seen s c a []) (let e : suc z ≡ 1 + z = omega arith in e)
-    (inr ((λ found f. apart (one_series seen t e s a leaf found l at f)), found_zeros seen s z (a + 1) zeros))
+pub found_other : (seen : Seen) (s t e a : ℕ) (leaf : Leaf) → IsLeafOf seen t e leaf → t ≢ s → leaf.address ≡ a → AreInner seen t leaf.number a → AreFound seen s (1 + carry_of leaf.number) a []
+found_other seen s t e a leaf l apart at inner =
+    subst (λ (c : ℕ). AreFound seen s c a []) (let e : suc (carry_of leaf.number) ≡ 1 + carry_of leaf.number = omega arith in e)
+    (inr ((λ found f. apart (one_series seen t e s a leaf found l at f)), found_inner seen s t leaf.number a inner))
 
 -- no leaf of a series that isn't known
 pub found_unknown : (seen : Seen) (known s count a : ℕ) (gs : List Group) → known ≤ s → AreGroups seen known count a gs → AreFound seen s count a []
@@ -81,4 +85,4 @@ found_unknown seen known s count a (g ∷ gs) new h =
     let z = carry_of g.leaf.number in
     let apart : g.series ≢ s = λ e. omega (arith, e, h.0, new) in
     subst (λ (c : ℕ). AreFound seen s c a []) (sym h.5)
-    (found_append seen s (1 + z) h.4 a [] [] (found_other seen s g.series g.elder z a g.leaf h.2 apart h.1 h.3) (found_unknown seen known s h.4 (a + (1 + z)) gs new h.6))
+    (found_append seen s (1 + z) h.4 a [] [] (found_other seen s g.series g.elder a g.leaf h.2 apart h.1 h.3) (found_unknown seen known s h.4 (a + (1 + z)) gs new h.6))

@@ -1,4 +1,4 @@
--- The chains of series: blocks that stay the same, a series that begins, and a leaf more.
+-- The chains of series: a series that begins, and a leaf more.
 use Rattle.std.proofs.Common.{◌≡◌, ◌+◌, ◌<◌, ◌≤◌, ℕ, suc, List, [], ◌∷◌, ◌++◌, length, refl, sym, ◌∙◌, subst, arith, add-one, length-append}
 use Rattle.std.proofs.lemmas.Grind.{flat_map-append}
 use Rattle.ak_base.specs.Points.{IsHistoryFrom, last_ts_from}
@@ -8,8 +8,6 @@ use Rattle.ak_image.specs.Chains.{AreLinked, IsChain}
 use Rattle.ak_world.specs.Valid.{AreNumbered}
 use Rattle.ak_image.specs.Scans.{IsLeafOf}
 use Rattle.ak_image.proofs.StepBlocks.{some_points}
-use Rattle.ak_image.proofs.StepRows.{leaf_same}
-use Rattle.ak_image.proofs.StepScans.{AreKept}
 use Rattle.ak_meta.specs.Contents.{rescue_at}
 use Rattle.ak_meta.specs.Leaves.{with_leaf, new_series}
 use Rattle.ak_meta.specs.declared.meta.SeriesMeta.{SeriesMeta}
@@ -56,25 +54,9 @@ numbers_more : (first : ℕ) (leaves : List Leaf) (leaf : Leaf) → leaf.number 
 numbers_more first [] leaf e h = (omega (arith, e), tt)
 numbers_more first (x ∷ leaves) leaf e h = (h.0, numbers_more (suc first) leaves leaf (omega (arith, e)) h.1)
 
-links_same : (old new : Seen) (s before last : ℕ) (leaves : List Leaf) → AreKept old new leaves → AreLinked old s before leaves last → AreLinked new s before leaves last
-links_same old new s before last [] same h = h
-links_same old new s before last (x ∷ leaves) same h = (leaf_same old new s before x same.0 h.0, links_same old new s x.address last leaves same.1 h.1)
-
 links_more : (seen : Seen) (s before last next : ℕ) (leaves : List Leaf) (leaf : Leaf) → IsLeafOf seen s last leaf → next ≡ leaf.address → AreLinked seen s before leaves last → AreLinked seen s before (leaves ++ leaf ∷ []) next
 links_more seen s before last next [] leaf l e h = (subst (λ (x : ℕ). IsLeafOf seen s x leaf) h l, e)
 links_more seen s before last next (x ∷ leaves) leaf l e h = (h.0, links_more seen s x.address last next leaves leaf l e h.1)
-
-pub chain_same : (old new : Seen) (lo s : ℕ) (known : SeriesMeta) (leaves : List Leaf) → AreKept old new leaves → IsChain old lo s known leaves → IsChain new lo s known leaves
-chain_same old new lo s known leaves same c = record {
-  first = c.first;
-  numbers = c.numbers;
-  count = c.count;
-  before = c.before;
-  gone = c.gone;
-  links = links_same old new s c.before (rescue_at known.rescue 0) leaves same c.links;
-  history = c.history;
-  last = c.last;
-}
 
 -- a series that begins
 pub chain_begin : (seen : Seen) (lo s : ℕ) (name : List ℕ) → IsChain seen lo s (new_series name) []

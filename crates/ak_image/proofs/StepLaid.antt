@@ -1,39 +1,26 @@
 -- How the live blocks stay laid out.
-use Rattle.std.proofs.Common.{◌≡◌, ◌≢◌, ◌+◌, ◌-◌, ◌<◌, ◌≤◌, ℕ, zero, suc, Bool, true, false, List, [], ◌∷◌, ◌++◌, length, drop, refl, sym, ap, subst, arith, length-append}
+use Rattle.std.proofs.Common.{◌≡◌, ◌≢◌, ◌+◌, ◌-◌, ◌<◌, ◌≤◌, ℕ, zero, suc, Bool, true, false, List, [], ◌∷◌, ◌++◌, length, drop, refl, sym, ap, ◌∙◌, subst, arith, length-append}
 use Rattle.std.specs.Prelude.{if◌then◌else◌}
 use Rattle.ak_base.specs.Points.{IsHistoryFrom, last_ts_from}
 use Rattle.ak_base.specs.declared.point.Point.{Point}
 use Rattle.ak_image.specs.Blocks.{Seen}
 use Rattle.ak_image.specs.Groups.{Group, AreGroups, AreRows}
-use Rattle.ak_image.specs.Laid.{AreLaid, IsLaid, IsWritten, spot, rescue_in, last_in, next_leaf}
+use Rattle.ak_image.specs.Laid.{AreLaid, IsLaid, IsWritten, IsNextTree, spot, rescue_in, last_in, next_leaf}
 use Rattle.ak_world.specs.Valid.{kept_with}
 use Rattle.ak_image.specs.Scans.{IsLeafOf, AreFound, IsScan}
+use Rattle.ak_image.proofs.Agreeing.{laid_agree}
 use Rattle.ak_image.proofs.StepBlocks.{found_own, found_other}
-use Rattle.ak_image.proofs.StepChains.{chain_same, chain_begin, chain_more}
-use Rattle.ak_image.proofs.StepRows.{AreSameRows, live_rows, last_fill, with_more, newest_fill_is, filled_is, rows_same, rows_more, rows_begin, rows_known}
-use Rattle.ak_image.proofs.StepScans.{scan_same, scan_kept, scan_more, scan_none, scan_begin, scan_unknown}
+use Rattle.ak_image.proofs.StepChains.{chain_begin, chain_more}
+use Rattle.ak_image.proofs.StepRows.{last_fill, with_more, newest_fill_is, filled_is, rows_more, rows_begin, rows_known}
+use Rattle.ak_image.proofs.StepScans.{scan_more, scan_none, scan_begin, scan_unknown}
+use Rattle.ak_image.proofs.StepTrees.{trees_begin, trees_with_series, trees_more}
 use Rattle.ak_levels.specs.Carries.{carry_of}
 use Rattle.ak_meta.specs.Contents.{Content, IsMeta}
 use Rattle.ak_meta.specs.Leaves.{with_leaf_at, new_series, with_series, closed_in, leaves_at}
 use Rattle.ak_meta.specs.declared.meta.SeriesMeta.{SeriesMeta}
-use Rattle.ak_volumes.specs.Ordinals.{Ordinals, IsLive, newest, newest_fill, address, filled, switched}
+use Rattle.ak_volumes.specs.Ordinals.{Ordinals, newest, newest_fill, address, filled, switched}
 use Rattle.ak_world.specs.Leaves.{Leaf}
 use Rattle.ak_world.specs.Steps.{is_full}
-
--- ---- Blocks that stay the same
-
-all_same : (old new : Seen) (lo : ℕ) (fills : List ℕ) (k : ℕ) (series : List SeriesMeta) (kept : List (List Leaf)) → AreSameRows old new lo fills → AreLaid old lo fills k series kept → AreLaid new lo fills k series kept
-all_same old new lo fills k [] kept same h = h
-all_same old new lo fills k (x ∷ series) kept same h =
-    (h.0, h.1, h.2, scan_same old new k lo fills h.0 same h.3, chain_same old new lo k x h.0 (scan_kept old new k lo fills h.0 same h.3) h.4, all_same old new lo fills (suc k) series h.1 same h.5)
-
-pub laid_same : (old new : Seen) (c : Content) (kept : List (List Leaf)) → IsMeta c → IsLaid old c kept → ((a : ℕ) → IsLive c.ordinals a → new a ≡ old a) → IsLaid new c kept
-laid_same old new c kept is h live =
-    let same : AreSameRows old new c.ordinals.lo c.ordinals.fills = live_rows old new c.ordinals is.ordinals_are live in
-    record {
-      rows = rows_same old new (length c.series) c.ordinals.lo c.ordinals.fills same h.rows;
-      leaves = all_same old new c.ordinals.lo c.ordinals.fills 0 c.series kept same h.leaves;
-    }
 
 -- ---- An ordinal that begins
 
@@ -47,6 +34,7 @@ begun seen c kept true e h = absurd (cc)
 begun seen c kept false e h = record {
   rows = rows_begin seen (length c.series) c.ordinals.lo c.ordinals.fills h.rows;
   leaves = all_begin seen c.ordinals.lo c.ordinals.fills 0 c.series kept h.leaves;
+  trees = trees_begin seen c.ordinals 0 c.series kept h.trees;
 }
 
 pub ordinal_laid : (seen : Seen) (c : Content) (kept : List (List Leaf)) → IsMeta c → is_full c.ordinals ≡ false → IsLaid seen c kept → IsLaid seen (record c { ordinals = switched c.ordinals }) kept
@@ -63,6 +51,10 @@ all_with_series seen lo fills k (x ∷ series) kept name scan h =
     let next : IsScan seen (suc k + length series) lo fills [] = subst (λ (s : ℕ). IsScan seen s lo fills []) (let e : k + suc (length series) ≡ suc k + length series = omega arith in e) scan in
     (h.0, h.1 ++ [] ∷ [], ap (λ (l : List (List Leaf)). l ++ [] ∷ []) h.2, h.3, h.4, all_with_series seen lo fills (suc k) series h.1 name next h.5)
 
+kept_long : (seen : Seen) (lo : ℕ) (fills : List ℕ) (k : ℕ) (series : List SeriesMeta) (kept : List (List Leaf)) → AreLaid seen lo fills k series kept → length kept ≡ length series
+kept_long seen lo fills k [] kept h = ap length h
+kept_long seen lo fills k (x ∷ series) kept h = ap length h.2 ∙ ap suc (kept_long seen lo fills (suc k) series h.1 h.5)
+
 pub series_laid : (seen : Seen) (c : Content) (kept : List (List Leaf)) (name : List ℕ) → IsMeta c → IsLaid seen c kept → IsLaid seen (with_series c name) (kept ++ [] ∷ [])
 series_laid seen c kept name is h =
     let lo = c.ordinals.lo in
@@ -70,6 +62,7 @@ series_laid seen c kept name is h =
     record {
       rows = rows_known seen (length c.series) (length (c.series ++ new_series name ∷ [])) lo fills (omega (arith, length-append c.series (new_series name ∷ []))) h.rows;
       leaves = all_with_series seen lo fills 0 c.series kept name (scan_unknown seen (length c.series) (0 + length c.series) lo fills (omega arith) h.rows) h.leaves;
+      trees = trees_with_series c.ordinals seen 0 c.series kept name (kept_long seen lo fills 0 c.series kept h.leaves) h.trees;
     }
 
 -- ---- A leaf more
@@ -101,23 +94,24 @@ length-leaf (x ∷ series) zero last a = refl
 length-leaf (x ∷ series) (suc n) last a = ap suc (length-leaf series n last a)
 
 pub leaf_laid : (old new : Seen) (c : Content) (kept : List (List Leaf)) (n : ℕ) (ps : List Point) → IsMeta c → IsLaid old c kept → n < length c.series → newest_fill c.ordinals + (1 + carry_of (leaves_at c.series n)) ≤ c.ordinals.blocks
-    → IsHistoryFrom (last_in c.series n) ps → IsWritten old new c n ps
+    → IsHistoryFrom (last_in c.series n) ps → IsWritten old new c n ps → IsNextTree new c kept n ps
     → IsLaid new (closed_in (record c { ordinals = filled c.ordinals (1 + carry_of (leaves_at c.series n)) }) n (last_ts_from 0 ps) (spot c.ordinals)) (kept_with kept n (next_leaf c n ps))
-leaf_laid old new c kept n ps is h within fits history w =
+leaf_laid old new c kept n ps is h within fits history w tree =
     let o : Ordinals = c.ordinals in
     let z = carry_of (leaves_at c.series n) in
     let a = spot o in
     let leaf = next_leaf c n ps in
     let some = is.ordinals_are.some in
     let at : a ≡ address (o.lo + length o.fills - 1) (last_fill o.fills) = ap (address (newest o)) (newest_fill_is o some) in
-    let still : IsLaid new c kept = laid_same old new c kept is h w.same in
+    let still : IsLaid new c kept = laid_agree old new c kept is h w.same in
     let group : Group = record { series = n; elder = rescue_in c.series n; leaf = leaf } in
-    let groups : AreGroups new (length c.series) (1 + z) a (group ∷ []) = (within, refl, w.leaf, w.zeros, 0, omega arith, refl) in
+    let groups : AreGroups new (length c.series) (1 + z) a (group ∷ []) = (within, refl, w.leaf, w.inner, 0, omega arith, refl) in
     let rows = rows_more new (length c.series) o.lo (1 + z) a o.fills (group ∷ []) some at groups still.rows in
-    let own : AreFound new n (1 + z) a (leaf ∷ []) = found_own new n (rescue_in c.series n) z a leaf w.leaf refl w.zeros in
-    let others : (s : ℕ) → n ≢ s → AreFound new s (1 + z) a [] = λ s apart. found_other new s n (rescue_in c.series n) z a leaf w.leaf apart refl w.zeros in
+    let own : AreFound new n (1 + z) a (leaf ∷ []) = found_own new n (rescue_in c.series n) a leaf w.leaf refl w.inner in
+    let others : (s : ℕ) → n ≢ s → AreFound new s (1 + z) a [] = λ s apart. found_other new s n (rescue_in c.series n) a leaf w.leaf apart refl w.inner in
     let all = all_more new o.lo (1 + z) a n o.fills 0 n c.series kept leaf some at (omega arith) within refl refl history w.leaf own others still.leaves in
     record {
       rows = subst (λ (m : ℕ). AreRows new m o.lo (filled o (1 + z)).fills) (length-leaf c.series n (last_ts_from 0 ps) a) (subst (AreRows new (length c.series) o.lo) (sym (filled_is o (1 + z) some)) rows);
       leaves = subst (λ (fills : List ℕ). AreLaid new o.lo fills 0 (with_leaf_at c.series n (last_ts_from 0 ps) a) (kept_with kept n leaf)) (sym (filled_is o (1 + z) some)) all;
+      trees = trees_more old new o (1 + z) is.ordinals_are w.same n 0 n c.series kept (last_ts_from 0 ps) a leaf (omega arith) within tree h.trees;
     }

@@ -1,62 +1,12 @@
--- The scans of live blocks: blocks that stay the same, and a leaf more at the end.
-use Rattle.std.proofs.Common.{inl, inr, ◌≡◌, ◌+◌, ◌-◌, ◌<◌, ◌≤◌, ℕ, zero, suc, List, [], ◌∷◌, ◌++◌, length, refl, sym, ap, ◌∙◌, subst, arith, append_assoc, append-nil}
-use Rattle.std.specs.List.{AllByRecursion}
+-- The scans of live blocks, with a leaf more at the end.
+use Rattle.std.proofs.Common.{◌≡◌, ◌+◌, ◌-◌, ◌<◌, ◌≤◌, ℕ, suc, List, [], ◌∷◌, ◌++◌, length, refl, sym, ap, ◌∙◌, subst, arith, append_assoc, append-nil}
 use Rattle.ak_image.specs.Blocks.{Seen}
 use Rattle.ak_image.specs.Groups.{AreRows}
-use Rattle.ak_image.specs.Scans.{IsFound, AreFound, IsScan}
+use Rattle.ak_image.specs.Scans.{AreFound, IsScan}
 use Rattle.ak_image.proofs.StepBlocks.{found_append, found_unknown}
-use Rattle.ak_image.proofs.StepRows.{AreSame, AreSameRows, same_here, same_behind, leaf_same, last_fill, with_more}
+use Rattle.ak_image.proofs.StepRows.{last_fill, with_more}
 use Rattle.ak_volumes.specs.Ordinals.{address}
 use Rattle.ak_world.specs.Leaves.{Leaf}
-
--- ---- Blocks that stay the same
-
--- the blocks at which these leaves stand
-abbrev pub AreKept : Seen → Seen → List Leaf → Type 0
-AreKept old new leaves = AllByRecursion (λ (leaf : Leaf). new leaf.address ≡ old leaf.address) leaves
-
-kept_append : (old new : Seen) (xs ys : List Leaf) → AreKept old new xs → AreKept old new ys → AreKept old new (xs ++ ys)
-kept_append old new [] ys h k = k
-kept_append old new (x ∷ xs) ys h k = (h.0, kept_append old new xs ys h.1 k)
-
-found_block : (old new : Seen) (s a : ℕ) (leaf : Leaf) → new a ≡ old a → IsFound old s a leaf → IsFound new s a leaf
-found_block old new s a leaf same f =
-    record { at = f.at; elder = f.elder; is = leaf_same old new s f.elder leaf (subst (λ (x : ℕ). new x ≡ old x) (sym f.at) same) f.is }
-
-found_same : (old new : Seen) (s count a : ℕ) (leaves : List Leaf) → AreSame old new a count → AreFound old s count a leaves → AreFound new s count a leaves
-found_same old new s zero a leaves same h = h
-found_same old new s (suc count) a leaves same h =
-    let here = same_here old new a count same in
-    let rest = same_behind old new a (suc count) 1 count (omega arith) same in
-    elim h [
-      | inl one ↦ inl (one.0, one.1, found_block old new s a one.0 here one.2, one.3, found_same old new s count (a + 1) one.1 rest one.4)
-      | inr none ↦ inr ((λ leaf f. none.0 leaf (found_block new old s a leaf (sym here) f)), found_same old new s count (a + 1) leaves rest none.1)
-    ]
-
-found_kept : (old new : Seen) (s count a : ℕ) (leaves : List Leaf) → AreSame old new a count → AreFound old s count a leaves → AreKept old new leaves
-found_kept old new s zero a leaves same h = subst (AreKept old new) (sym h) tt
-found_kept old new s (suc count) a leaves same h =
-    let here = same_here old new a count same in
-    let rest = same_behind old new a (suc count) 1 count (omega arith) same in
-    elim h [
-      | inl one ↦
-          let at : new one.0.address ≡ old one.0.address = subst (λ (x : ℕ). new x ≡ old x) (sym one.2.at) here in
-          subst (AreKept old new) (sym one.3) (at, found_kept old new s count (a + 1) one.1 rest one.4)
-      | inr none ↦ found_kept old new s count (a + 1) leaves rest none.1
-    ]
-
-pub scan_same : (old new : Seen) (s ordinal : ℕ) (fills : List ℕ) (leaves : List Leaf) → AreSameRows old new ordinal fills → IsScan old s ordinal fills leaves → IsScan new s ordinal fills leaves
-scan_same old new s ordinal [] leaves same h = h
-scan_same old new s ordinal (f ∷ fills) leaves same h =
-    (h.0, h.1, h.2, found_same old new s f (address ordinal 0) h.0 same.0 h.3, scan_same old new s (suc ordinal) fills h.1 same.1 h.4)
-
-pub scan_kept : (old new : Seen) (s ordinal : ℕ) (fills : List ℕ) (leaves : List Leaf) → AreSameRows old new ordinal fills → IsScan old s ordinal fills leaves → AreKept old new leaves
-scan_kept old new s ordinal [] leaves same h = subst (AreKept old new) (sym h) tt
-scan_kept old new s ordinal (f ∷ fills) leaves same h =
-    subst (AreKept old new) (sym h.2)
-    (kept_append old new h.0 h.1 (found_kept old new s f (address ordinal 0) h.0 same.0 h.3) (scan_kept old new s (suc ordinal) fills h.1 same.1 h.4))
-
--- ---- Scans that grow
 
 -- the newest ordinal gets leaves at its end
 pub scan_more : (seen : Seen) (s ordinal b a : ℕ) (fills : List ℕ) (leaves more : List Leaf) → 0 < length fills → a ≡ address (ordinal + length fills - 1) (last_fill fills) → AreFound seen s b a more → IsScan seen s ordinal fills leaves

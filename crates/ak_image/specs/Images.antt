@@ -5,9 +5,10 @@ use Rattle.ak_image.specs.Blocks.{Seen, seen_in, HasVolumes}
 use Rattle.ak_image.specs.Chains.{IsChain}
 use Rattle.ak_image.specs.Groups.{AreRows}
 use Rattle.ak_image.specs.Scans.{IsScan}
+use Rattle.ak_image.specs.Trees.{IsTreeOf}
 use Rattle.ak_meta.specs.Contents.{Content, IsMeta}
 use Rattle.ak_meta.specs.declared.meta.SeriesMeta.{SeriesMeta}
-use Rattle.ak_volumes.specs.Ordinals.{IsLive}
+use Rattle.ak_volumes.specs.Ordinals.{Ordinals, IsLive}
 use Rattle.ak_record.specs.Records.{frame_for, HasNewest}
 use Rattle.ak_world.specs.Leaves.{Leaf}
 use Rattle.ak_world.specs.Views.{View}
@@ -18,16 +19,18 @@ AreScans seen lo fills series [] kept = kept ≡ []
 AreScans seen lo fills series (known ∷ others) kept = (leaves : List Leaf) × (rest : List (List Leaf)) × (kept ≡ leaves ∷ rest)
     × IsScan seen series lo fills leaves × AreScans seen lo fills (suc series) others rest
 
--- Of each series, from a number on, the leaves that a scan finds are a chain.
-abbrev pub AreChains : Seen → ℕ → List ℕ → ℕ → List SeriesMeta → Type 0
-AreChains seen lo fills series [] = Unit {0}
-AreChains seen lo fills series (known ∷ others) = ((leaves : List Leaf) × IsScan seen series lo fills leaves × IsChain seen lo series known leaves)
-    × AreChains seen lo fills (suc series) others
+-- Of each series, from a number on, the leaves that a scan finds are a chain, and its live blocks are the tree over them.
+abbrev pub AreGrown : Ordinals → Seen → ℕ → List SeriesMeta → Type 0
+AreGrown o seen series [] = Unit {0}
+AreGrown o seen series (known ∷ others) =
+    ((leaves : List Leaf) × IsScan seen series o.lo o.fills leaves × IsChain seen o.lo series known leaves × IsTreeOf o seen series known leaves)
+    × AreGrown o seen (suc series) others
 
--- The live blocks are sound by a record: they stand in rows of whole groups, and those of each series are a chain.
+-- The live blocks are sound by a record: they stand in rows of whole groups, and those of each series are a chain of leaves and
+-- the tree over it.
 pub record AreSound (seen : Seen) (c : Content) : Type 0 where
   pub rows : AreRows seen (length c.series) c.ordinals.lo c.ordinals.fills
-  pub chains : AreChains seen c.ordinals.lo c.ordinals.fills 0 c.series
+  pub series : AreGrown c.ordinals seen 0 c.series
 
 -- A sound image: a gate is open, and behind each open gate there is a record with this size of a slot; the files of the
 -- volumes that the newest record tells are there; and its live blocks are sound.

@@ -1,6 +1,9 @@
 pub mod Blocks
 pub mod Scans
+pub mod Nodes
+pub mod Trees
 pub mod Groups
 pub mod Chains
 pub mod Images
 pub mod Laid
+pub mod Planted

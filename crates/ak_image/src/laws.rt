@@ -1,9 +1,11 @@
 //! Laws of images.
 ghost use Rattle.std.specs.Prelude.{◌≡◌, ◌↔◌, ℕ, List, Some};
+ghost use Rattle.ak_forest.specs.Tree.{Node};
 ghost use Rattle.ak_host.specs.Files.{Files};
 ghost use Rattle.ak_image.specs.Blocks.{Seen, seen_in, HasVolumes};
 ghost use Rattle.ak_image.specs.Images.{AreAlike, IsSound, StandsFor};
 ghost use Rattle.ak_image.specs.Laid.{IsLaid};
+ghost use Rattle.ak_image.specs.Nodes.{IsInnerOf, IsNodeAt};
 ghost use Rattle.ak_meta.specs.Contents.{Content, IsMeta};
 ghost use Rattle.ak_record.specs.Records.{frame_for, HasNewest};
 ghost use Rattle.ak_volumes.specs.Ordinals.{IsLive};
@@ -21,6 +23,14 @@ pub fn images_agree()
 pub fn laid_agrees()
     ensures { (seen other : Seen) (c : Content) (kept : List (List Leaf)) → IsMeta c → IsLaid seen c kept
         → ((a : ℕ) → IsLive c.ordinals a → other a ≡ seen a) → IsLaid other c kept }
+{}
+
+/// A block spells one node at most. Blocks that spell one inner node are the same.
+pub fn one_node()
+    ensures node { (seen : Seen) (a : ℕ) (x y : Node) → IsNodeAt seen a x → IsNodeAt seen a y
+        → (x.level ≡ y.level) × (x.series ≡ y.series) × (x.number ≡ y.number) × (x.elder ≡ y.elder) × (x.references ≡ y.references)
+        × (x.level ≡ 0 → x.value ≡ y.value) }
+    ensures block { (seen other : Seen) (a : ℕ) (node : Node) → IsInnerOf seen a node → IsInnerOf other a node → seen a ≡ other a }
 {}
 
 /// An image stands for one view at most.

@@ -4,7 +4,7 @@ ghost use Rattle.ak_base.specs.Points.{IsHistoryFrom, last_ts_from};
 ghost use Rattle.ak_base.specs.declared.limits.Limits.{Limits};
 ghost use Rattle.ak_base.specs.declared.point.Point.{Point};
 ghost use Rattle.ak_image.specs.Blocks.{Seen};
-ghost use Rattle.ak_image.specs.Laid.{IsLaid, IsWritten, spot, last_in, next_leaf};
+ghost use Rattle.ak_image.specs.Laid.{IsLaid, IsWritten, IsNextTree, spot, last_in, next_leaf};
 ghost use Rattle.ak_levels.specs.Carries.{carry_of};
 ghost use Rattle.ak_meta.specs.Contents.{Content, IsMeta};
 ghost use Rattle.ak_meta.specs.Leaves.{first_content, with_series, closed_in, leaves_at};
@@ -34,7 +34,7 @@ pub fn laid_with_ordinal()
 pub fn laid_with_leaf()
     ensures { (old new : Seen) (c : Content) (kept : List (List Leaf)) (n : ℕ) (ps : List Point) → IsMeta c → IsLaid old c kept
         → n < length c.series → newest_fill c.ordinals + (1 + carry_of (leaves_at c.series n)) ≤ c.ordinals.blocks
-        → IsHistoryFrom (last_in c.series n) ps → IsWritten old new c n ps
+        → IsHistoryFrom (last_in c.series n) ps → IsWritten old new c n ps → IsNextTree new c kept n ps
         → IsLaid new (closed_in (record c { ordinals = filled c.ordinals (1 + carry_of (leaves_at c.series n)) }) n (last_ts_from 0 ps) (spot c.ordinals))
         (kept_with kept n (next_leaf c n ps)) }
 {}

@@ -1,29 +1,33 @@
 -- Names that are added to a forest, to its index, and to the world.
-use Rattle.std.proofs.Common.{◌≡◌, ◌∙◌, ℕ, zero, suc, ◌+◌, ◌*◌, ◌^◌, ◌<◌, ◌≤◌, Bool, true, false, ◌||◌, if◌then◌else◌, List, [], ◌∷◌, ◌++◌, length, take, drop, get_or, Option, Some, None, is_some, not, cond, bytes_eq, refl, sym, ap, ap₂, subst, arith}
+use Rattle.std.proofs.Common.{◌≡◌, ◌∙◌, ℕ, zero, suc, ◌+◌, ◌*◌, ◌^◌, ◌<◌, ◌≤◌, Bool, true, false, ◌||◌, if◌then◌else◌, List, [], ◌∷◌, ◌++◌, length, take, drop, get_or, Option, Some, None, is_some, not, cond, map, bytes_eq, refl, sym, ap, ap₂, subst, arith}
 use Rattle.std.proofs.lemmas.List.{take_more, drop_all, length-map}
 use Rattle.std.proofs.lemmas.List.Folds.{list_any-append}
 use Rattle.std.proofs.lemmas.Slice.Eq.{bytes_eq-Decides}
+use Rattle.std.proofs.lemmas.Cmp.{nat_list_eq_equiv}
 use Rattle.std.proofs.lemmas.Iterator.Adapters.{position_from-zero}
 use Rattle.std.specs.List.{AllByRecursion, list_any, position_from}
 use Rattle.std.specs.Prelude.{IfSome}
 use Rattle.ak_host.specs.Moments.{HostState}
 use Rattle.ak_image.specs.Blocks.{Seen, seen_in, AreThere}
 use Rattle.ak_image.specs.Laid.{IsLaid}
+use Rattle.ak_image.specs.Planted.{ArePlanted}
 use Rattle.ak_image.proofs.StepLaid.{series_laid}
+use Rattle.ak_levels.specs.Pending.{Lists, no_lists}
 use Rattle.ak_meta.proofs.Lawful.{series_lawful}
 use Rattle.ak_meta.proofs.Sizes.{many}
 use Rattle.ak_meta.specs.Contents.{Content, IsMeta, IsCanonical, names_of, size_of}
 use Rattle.ak_meta.specs.Leaves.{with_series, new_series}
 use Rattle.ak_meta.specs.declared.meta.SeriesMeta.{SeriesMeta}
-use Rattle.ak_node.specs.Names.{place_in, last_in_place, late_known, with_all, ArePlaces}
-use Rattle.ak_node.proofs.Naming.{with_one, with_title, known_at, new_at, content_one}
+use Rattle.ak_node.specs.Names.{place_in, last_in_place, late_known, with_all, levels_with, ArePlaces}
+use Rattle.ak_node.proofs.Naming.{titles, titles_known, with_one, with_title, known_at, new_at, content_one}
 use Rattle.ak_node.proofs.Late.{Below, not_late, late_none, both_none}
 use Rattle.ak_node.proofs.Looking.{knows, size_one, rest_at}
 use Rattle.ak_pool.specs.declared.pool.Frame.{Frame}
 use Rattle.ak_tree.specs.Later.{Becomes}
 use Rattle.ak_tree.proofs.Becoming.{becomes_same, becomes_on, becomes_named}
-use Rattle.ak_tree.specs.Standing.{Trees, trees, AreTrees, IsReady, Keeps, Holds, leaf_in, last_of_series, last_behind, last_known}
+use Rattle.ak_tree.specs.Standing.{Trees, trees, AreTrees, IsReady, Keeps, Holds, leaf_in, last_of_series, last_behind, last_known, base_of, bases_of}
 use Rattle.ak_tree.proofs.AddingSeries.{size_named}
+use Rattle.ak_tree.proofs.Planted.{all_named}
 use Rattle.ak_volumes.specs.Ordinals.{Ordinals}
 use Rattle.ak_world.specs.Leaves.{Series, Leaf}
 use Rattle.ak_world.specs.Puts.{with_name, late_behind, first_of, named}
@@ -71,6 +75,29 @@ next_known c all names i name d lt is some same =
     let split : drop i names ≡ name ∷ drop (i + 1) names = rest_at names i d lt ∙ ap (λ (n : List ℕ). n ∷ drop (i + 1) names) (sym is) in
     sym (ap (with_all c) split ∙ ap (λ (m : Content). with_all m (drop (i + 1) names)) (one_known c name some)) ∙ same
 
+-- ---- What waits with all names
+
+abbrev levels_by : Bool → List Lists → List Lists
+levels_by b levels = if b then levels else levels ++ no_lists ∷ []
+
+one_waits : (c : Content) (levels : List Lists) (name : List ℕ) (rest : List (List ℕ)) (b : Bool) → knows c name ≡ b
+    → levels_with c levels (name ∷ rest) ≡ levels_with (by_test b c name) (levels_by b levels) rest
+one_waits c levels name rest b is = ap (λ (x : Bool). levels_with (by_test x c name) (levels_by x levels) rest) is
+
+next_waits : (c all : Content) (levels first : List Lists) (names : List (List ℕ)) (i : ℕ) (name d : List ℕ) (b : Bool) → i < length names → name ≡ get_or names i d → knows c name ≡ b
+    → levels_with c levels (drop i names) ≡ levels_with all first names → levels_with (by_test b c name) (levels_by b levels) (drop (i + 1) names) ≡ levels_with all first names
+next_waits c all levels first names i name d b lt is known same =
+    let split : drop i names ≡ name ∷ drop (i + 1) names = rest_at names i d lt ∙ ap (λ (n : List ℕ). n ∷ drop (i + 1) names) (sym is) in
+    sym (ap (levels_with c levels) split ∙ one_waits c levels name (drop (i + 1) names) b known) ∙ same
+
+pub levels_new : (c all : Content) (levels first : List Lists) (names : List (List ℕ)) (i : ℕ) (name d : List ℕ) → i < length names → name ≡ get_or names i d → knows c name ≡ false
+    → levels_with c levels (drop i names) ≡ levels_with all first names → levels_with (with_series c name) (levels ++ no_lists ∷ []) (drop (i + 1) names) ≡ levels_with all first names
+levels_new c all levels first names i name d lt is new same = next_waits c all levels first names i name d false lt is new same
+
+pub levels_known : (c all : Content) (levels first : List Lists) (names : List (List ℕ)) (i : ℕ) (name d : List ℕ) → i < length names → name ≡ get_or names i d → knows c name ≡ true
+    → levels_with c levels (drop i names) ≡ levels_with all first names → levels_with c levels (drop (i + 1) names) ≡ levels_with all first names
+levels_known c all levels first names i name d lt is some same = next_waits c all levels first names i name d true lt is some same
+
 -- ---- What the forest knows
 
 last_more : (all : List SeriesMeta) (name : List ℕ) (n : ℕ) → last_of_series (all ++ new_series name ∷ []) n ≡ last_of_series all n
@@ -87,7 +114,7 @@ frame_more (x ∷ frames) (suc n) = frame_more frames n
 
 -- the forest with a series more
 abbrev pub with_more : Trees → List ℕ → Trees
-with_more f name = record f { meta = with_series f.meta name; frames = f.frames ++ None ∷ [] }
+with_more f name = record f { meta = with_series f.meta name; frames = f.frames ++ None ∷ []; levels = f.levels ++ no_lists ∷ [] }
 
 -- no last timestamp changes
 pub last_stays : (f new : Trees) (name : List ℕ) (n : ℕ) → new ≡ with_more f name → last_known new n ≡ last_known f n
@@ -190,11 +217,11 @@ is_among known name (Some i) b is test some = known_at known name i (sym is)
 -- ---- The forest with the names so far
 
 abbrev over : Trees → Trees → Trees
-over first f = record first { meta = f.meta; frames = f.frames }
+over first f = record first { meta = f.meta; frames = f.frames; levels = f.levels }
 
 pub forest_next : (first f new : Trees) (name : List ℕ) → new ≡ with_more f name → f ≡ over first f → new ≡ over first new
 forest_next first f new name is before =
-    is ∙ ap (λ (t : Trees). trees (with_series f.meta name) t.pool (f.frames ++ None ∷ []) t.check t.since) before ∙ sym (ap (over first) is)
+    is ∙ ap (λ (t : Trees). trees (with_series f.meta name) t.pool (f.frames ++ None ∷ []) (f.levels ++ no_lists ∷ []) t.check t.since) before ∙ sym (ap (over first) is)
 
 -- ---- What is stored
 
@@ -207,10 +234,10 @@ ordinals_all c [] = refl
 ordinals_all c (name ∷ names) = ordinals_all (with_one c name) names ∙ ordinals_one (knows c name) c name
 
 -- views can be taken as before
-pub ready_named : (told : Type 0) (f new : Trees) (names : List (List ℕ)) (host : HostState) → new ≡ record f { meta = with_all f.meta names; frames = new.frames } → IsReady told f host → IsReady told new host
+pub ready_named : (told : Type 0) (f new : Trees) (names : List (List ℕ)) (host : HostState) → new ≡ record f { meta = with_all f.meta names; frames = new.frames; levels = levels_with f.meta f.levels names } → IsReady told f host → IsReady told new host
 ready_named told f new names host is ready =
     let there : AreThere (with_all f.meta names).ordinals host = subst (λ (o : Ordinals). AreThere o host) (sym (ordinals_all f.meta names)) ready.there in
-    let all : IsReady told (record f { meta = with_all f.meta names; frames = new.frames }) host =
+    let all : IsReady told (record f { meta = with_all f.meta names; frames = new.frames; levels = levels_with f.meta f.levels names }) host =
     record { whole = ready.whole; opened = ready.opened; none_pending = ready.none_pending; number = ready.number; sized = ready.sized; there = there; fits = ready.fits } in
     subst (λ (t : Trees). IsReady told t host) (sym is) all
 
@@ -244,10 +271,45 @@ laid_all seen w (name ∷ names) is rules canonical room laid =
     let long : size_of (with_all (content_now (with_title w name)) names) ≡ size_of (with_all (with_one (content_now w) name) names) = ap (λ (c : Content). size_of (with_all c names)) same in
     laid_all seen (with_title w name) names (name_valid w name is) lawful canonical.1 (omega (arith, long, room)) (laid_one seen w name is rules laid)
 
+-- what waits of each series of a world, as its blocks make it
+abbrev AreWaiting : Seen → World → List Lists → Type 0
+AreWaiting seen w levels = ArePlanted w.ordinals seen 0 (content_now w).series (kept_now w) (bases_of w) levels
+
+bases_new : (ss : List Series) (name : List ℕ) → list_any (λ n. bytes_eq name n) (titles ss) ≡ false → map base_of (with_name ss name) ≡ map base_of ss ++ 0 ∷ []
+bases_new [] name new = refl
+bases_new (s ∷ ss) name new =
+    let apart = neither (bytes_eq name s.name) (list_any (λ n. bytes_eq name n) (titles ss)) new in
+    let other : bytes_eq s.name name ≡ false = nat_list_eq_equiv.symm s.name name ∙ apart.0 in
+    ap (λ (b : Bool). map base_of (if b then s ∷ ss else s ∷ with_name ss name)) other ∙ ap (λ (l : List ℕ). base_of s ∷ l) (bases_new ss name apart.1)
+  where
+    neither : (a b : Bool) → (a || b) ≡ false → (a ≡ false) × (b ≡ false)
+    neither false b h = (refl, h)
+    neither true b h = absurd (cc)
+
+waiting_one : (seen : Seen) (w : World) (name : List ℕ) (levels : List Lists) → IsWorld w → AreWaiting seen w levels → AreWaiting seen (with_title w name) (levels_by (knows (content_now w) name) levels)
+waiting_one seen w name levels is held = of (knows (content_now w) name) refl where
+  of : (b : Bool) → knows (content_now w) name ≡ b → AreWaiting seen (with_title w name) (levels_by b levels)
+  of true some = subst (λ (ss : List Series). AreWaiting seen (record w { series = ss }) levels) (sym (known_stays w name some)) held
+  of false new =
+      let all : List Lists = levels ++ no_lists ∷ [] in
+      let known : list_any (λ n. bytes_eq name n) (titles w.series) ≡ false =
+      sym (ap (λ (ns : List (List ℕ)). list_any (λ n. bytes_eq name n) ns) (titles_known w.opened.content.series w.series)) ∙ new in
+      let more = all_named w.ordinals seen 0 (content_now w).series (kept_now w) (bases_of w) levels name held in
+      subst (λ (bases : List ℕ). ArePlanted w.ordinals seen 0 (content_now (with_title w name)).series (kept_now (with_title w name)) bases all) (sym (bases_new w.series name known))
+      (subst (λ (kept : List (List Leaf)). ArePlanted w.ordinals seen 0 (content_now (with_title w name)).series kept (bases_of w ++ 0 ∷ []) all) (sym (kept_named w name new))
+      (subst (λ (c : Content). ArePlanted w.ordinals seen 0 c.series (kept_now w ++ [] ∷ []) (bases_of w ++ 0 ∷ []) all) (sym (content_named w name is new)) more))
+
+waiting_all : (seen : Seen) (w : World) (names : List (List ℕ)) (levels : List Lists) → IsWorld w → AreWaiting seen w levels → AreWaiting seen (named w names) (levels_with (content_now w) levels names)
+waiting_all seen w [] levels is held = held
+waiting_all seen w (name ∷ names) levels is held =
+    let now : List Lists = levels_by (knows (content_now w) name) levels in
+    subst (λ (c : Content). AreWaiting seen (named w (name ∷ names)) (levels_with c now names)) (content_one w name is)
+    (waiting_all seen (with_title w name) names now (name_valid w name is) (waiting_one seen w name levels is held))
+
 -- the forest and the disk hold the world with all names
 pub holds_named : (w : World) (f new : Trees) (names : List (List ℕ)) (host : HostState) → AreTrees f → AllByRecursion IsCanonical names → 16 + size_of (with_all f.meta names) ≤ 4096 * f.meta.limits.slot
-    → Holds w f host → Keeps (named w names) new → Holds (named w names) new host
-holds_named w f new names host are canonical room holds keeps =
+    → new.levels ≡ levels_with f.meta f.levels names → Holds w f host → Keeps (named w names) new → Holds (named w names) new host
+holds_named w f new names host are canonical room waits holds keeps =
     let same = holds.keeps.content_is in
     let rules : IsMeta (content_now w) = subst IsMeta same are.rules_are in
     let fits : 16 + size_of (with_all (content_now w) names) ≤ 4096 * (limits_of w).slot = subst (λ (c : Content). 16 + size_of (with_all c names) ≤ 4096 * c.limits.slot) same room in
@@ -257,6 +319,8 @@ holds_named w f new names host are canonical room holds keeps =
         rules_are = holds.stored.rules_are;
         limits_are = holds.stored.limits_are;
         laid = laid_all (seen_in (limits_of w).volumes host.files) w names holds.keeps.valid rules canonical fits holds.stored.laid;
+        planted = subst (AreWaiting (seen_in (limits_of w).volumes host.files) (named w names)) (sym (waits ∙ ap (λ (c : Content). levels_with c f.levels names) same))
+            (waiting_all (seen_in (limits_of w).volumes host.files) w names f.levels holds.keeps.valid holds.stored.planted);
         saved = holds.stored.saved;
         left = holds.stored.left;
       };

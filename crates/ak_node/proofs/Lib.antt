@@ -5,7 +5,6 @@ pub mod Chained
 pub mod Cutting
 pub mod Flushing
 pub mod Late
-pub mod Linked
 pub mod Looking
 pub mod Naming
 pub mod OnlyReading

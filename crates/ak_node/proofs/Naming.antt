@@ -21,7 +21,7 @@ use Rattle.ak_world.proofs.Valid.{name_valid}
 abbrev pub titles : List Series → List (List ℕ)
 titles ss = map (λ (s : Series). s.name) ss
 
-titles_known : (opened : List SeriesMeta) (ss : List Series) → names_of (all_known opened ss) ≡ titles ss
+pub titles_known : (opened : List SeriesMeta) (ss : List Series) → names_of (all_known opened ss) ≡ titles ss
 titles_known opened [] = refl
 titles_known [] (s ∷ ss) = ap (λ (ns : List (List ℕ)). s.name ∷ ns) (titles_known [] ss)
 titles_known (o ∷ opened) (s ∷ ss) = ap (λ (ns : List (List ℕ)). s.name ∷ ns) (titles_known opened ss)

@@ -10,7 +10,7 @@ use Rattle.ak_base.specs.declared.refusal.Refusal.TheVariants.{Late, MetaFull}
 use Rattle.ak_host.specs.Moments.{HostState, DiskPasses}
 use Rattle.ak_host.proofs.Passing.{disk_weaker}
 use Rattle.ak_meta.specs.Contents.{Content, IsCanonical, names_of, size_of}
-use Rattle.ak_node.specs.Names.{late_known, with_all, ArePlaces}
+use Rattle.ak_node.specs.Names.{late_known, with_all, levels_with, ArePlaces}
 use Rattle.ak_node.specs.Standing.{IsReady, Holds}
 use Rattle.ak_node.specs.declared.keeper.Keeper.{Keeper}
 use Rattle.ak_node.proofs.Adding.{ready_named, holds_named, places_stay, late_added}
@@ -79,7 +79,7 @@ pub record IsPut (old new : Keeper) (names : List (List ℕ)) (ts : ℕ) (places
   pub known : old.names ≡ names_of old.forest.meta.series
   pub more : List (List ℕ)
   pub longer : new.names ≡ old.names ++ more
-  pub forest : new.forest ≡ record (old.forest) { meta = with_all old.forest.meta names; frames = new.forest.frames }
+  pub forest : new.forest ≡ record (old.forest) { meta = with_all old.forest.meta names; frames = new.forest.frames; levels = levels_with old.forest.meta old.forest.levels names }
   pub last : (n : ℕ) → IfSome (last_known new.forest n) (λ last. last_known old.forest n ≡ Some last)
   pub keeps : (content : World) → Keeps content old.forest → Keeps (named content names) new.forest
   pub room : 16 + size_of (with_all old.forest.meta names) ≤ 4096 * old.forest.meta.limits.slot
@@ -92,7 +92,7 @@ pub is_put : {T E : Type 0} (r : Result T E) (b : Bool) (old new : Keeper) (name
     → need ≡ min (16 + size_of (with_all old.forest.meta names)) (2 ^ 64 - 1) → room ≡ 4096 * old.forest.meta.limits.slot → need ≤ room
     → late ≡ late_known old.forest old.names names ts → late ≡ None → ArePlaces places names old.names
     → OnOk r (new.names ≡ names_of new.forest.meta.series) → OnOk r ((more : List (List ℕ)) × (new.names ≡ old.names ++ more))
-    → OnOk r (new.forest ≡ record (old.forest) { meta = with_all old.forest.meta names; frames = new.forest.frames })
+    → OnOk r (new.forest ≡ record (old.forest) { meta = with_all old.forest.meta names; frames = new.forest.frames; levels = levels_with old.forest.meta old.forest.levels names })
     → ((n : ℕ) → OnOk r (IfSome (last_known new.forest n) (λ last. last_known old.forest n ≡ Some last)))
     → ((content : World) → Keeps content old.forest → OnOk r (Keeps (named content names) new.forest))
     → IsPut old new names ts places
@@ -124,7 +124,7 @@ module _ (old new : Keeper) (names : List (List ℕ)) (ts : ℕ) (places : List 
   put_late = late_added old.forest new.forest old.names new.names put.more names ts put.are put.known put.longer put.last put.none_late
 
   pub put_holds : (w : World) (host : HostState) → Holds w old host → Holds (named w names) new host
-  put_holds w host holds = holds_named w old.forest new.forest names host put.are put.canonical put.room holds (put.keeps w holds.keeps)
+  put_holds w host holds = holds_named w old.forest new.forest names host put.are put.canonical put.room (ap (λ (t : Trees). t.levels) put.forest) holds (put.keeps w holds.keeps)
 
   pub put_taken : (w : World) (vs : List ℤ) (need room : ℕ) → Keeps w old.forest → need ≡ min (16 + size_of (with_all old.forest.meta names)) (2 ^ 64 - 1) → room ≡ 4096 * old.forest.meta.limits.slot → need ≤ room
       → all_accepted (named w names) names ts vs ≡ after_points w names ts vs

@@ -7,8 +7,9 @@ use Rattle.std.specs.Str.{bytes_eq}
 use Rattle.ak_base.specs.declared.point.Point.{Point}
 use Rattle.ak_host.specs.Moments.{HostState}
 use Rattle.ak_meta.specs.Contents.{Content}
-use Rattle.ak_node.proofs.Chained.{kept_at, whole_alive}
-use Rattle.ak_node.specs.Walks.{IsAt, IsWholeIn}
+use Rattle.ak_node.proofs.Chained.{kept_at}
+use Rattle.ak_repair.proofs.Chained.{whole_alive}
+use Rattle.ak_repair.specs.Walks.{IsAt, IsWholeIn}
 use Rattle.ak_run.specs.Replies.{metric_of, row_text, series_rows}
 use Rattle.ak_tree.specs.Standing.{Trees, Holds}
 use Rattle.ak_world.specs.Leaves.{Leaf, Series, points_of, leaves_from, kept_points}

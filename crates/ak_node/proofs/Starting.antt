@@ -5,6 +5,7 @@ use Rattle.ak_gate.proofs.Found.{length_file}
 use Rattle.ak_gate.specs.Fits.{IsSized, Fits}
 use Rattle.ak_gate.specs.Slots.{Frame, gate_at, body_at, is_open}
 use Rattle.ak_gate.specs.declared.half.Half.{Half}
+use Rattle.ak_levels.specs.Pending.{Lists}
 use Rattle.ak_meta.proofs.Contents.{one_meta}
 use Rattle.ak_meta.specs.Contents.{meta_bytes}
 use Rattle.ak_node.specs.Standing.{IsReady, CanServe, Stands, AreSessions}
@@ -14,8 +15,11 @@ use Rattle.ak_node.specs.declared.session.Session.{Session}
 use Rattle.ak_record.proofs.Refusals.{newest_is_store}
 use Rattle.ak_record.specs.Records.{IsRecord}
 use Rattle.ak_record.specs.Stops.{IsNoStore, IsDamagedAt, IsShortAt, IsDamaged, IsOpenStop, AreMade}
+use Rattle.ak_repair.specs.Damage.{IsDamagedLeaf}
+use Rattle.ak_repair.specs.Firsts.{firsts}
+use Rattle.ak_repair.specs.Reads.{IsReadStop}
 use Rattle.ak_run.specs.Run.{world_of as run_of}
-use Rattle.std.proofs.Common.{◌≡◌, ◌⊎◌, inl, inr, ℕ, zero, suc, Bool, false, ◌||◌, ◌++◌, take, get_or, bytes_eq, ap₂, ◌+◌, ◌*◌, ◌<◌, ◌≤◌, nat_le, true, List, [], ◌∷◌, length, map, slice_index, Some, refl, sym, ◌∙◌, ap, subst, arith}
+use Rattle.std.proofs.Common.{◌≡◌, ◌⊎◌, inl, inr, ℕ, zero, suc, Bool, false, ◌||◌, ◌++◌, take, get_or, bytes_eq, ap₂, ◌+◌, ◌-◌, ◌*◌, ◌<◌, ◌≤◌, nat_le, true, List, [], ◌∷◌, length, map, slice_index, Some, refl, sym, ◌∙◌, ap, subst, arith}
 use Rattle.std.proofs.lemmas.Bool.Decides.{nat_tests}
 use Rattle.std.proofs.lemmas.Cmp.{nat_list_eq_equiv}
 use Rattle.std.proofs.lemmas.List.{length-replicate}
@@ -31,18 +35,19 @@ use Rattle.ak_image.specs.Blocks.{Seen, seen_in, HasVolumes, AreThere}
 use Rattle.ak_image.specs.Chains.{IsChain}
 use Rattle.ak_image.specs.Images.{IsSound, StandsFor}
 use Rattle.ak_image.specs.Laid.{IsLaid, AreLaid}
+use Rattle.ak_image.specs.Planted.{ArePlanted}
 use Rattle.ak_image.specs.Scans.{IsScan}
 use Rattle.ak_image.proofs.Places.{AtEach, live_rows, scan_at}
-use Rattle.ak_image.proofs.Standing.{one_record, newest_same, sound_laid, laid_image}
+use Rattle.ak_image.proofs.Standing.{one_record, newest_same, sound_laid, sound_view, laid_image}
 use Rattle.ak_checkpoint.specs.Making.{AreEmpty, IsMade}
 use Rattle.ak_meta.proofs.Lawful.{first_lawful}
 use Rattle.ak_meta.specs.Leaves.{first_content}
-use Rattle.ak_node.specs.Opening.{IsFirst, IsFoundRecord, KeepsOpened}
+use Rattle.ak_node.specs.Opening.{IsFirst, IsFoundRecord, IsNodeOpenStop, KeepsOpened}
 use Rattle.ak_meta.specs.Contents.{Content, IsMeta, names_of}
 use Rattle.ak_meta.specs.declared.meta.SeriesMeta.{SeriesMeta}
 use Rattle.ak_record.specs.Records.{frame_for, HasNewest, Rests}
 use Rattle.ak_record.specs.Volumes.{AreThere as AreFilesThere}
-use Rattle.ak_tree.specs.Standing.{Holds, Keeps, Trees}
+use Rattle.ak_tree.specs.Standing.{Holds, Keeps, Trees, base_of, bases_of}
 use Rattle.ak_tree.specs.Storing.{IsStored, IsLeftOf}
 use Rattle.ak_tree.proofs.Stored.{SameVolumes, seen_same, has_same}
 use Rattle.ak_volumes.specs.Ordinals.{Ordinals, AreOrdinals, ordinal_of, newest as newest_ordinal, file_of}
@@ -50,7 +55,7 @@ use Rattle.ak_world.proofs.Opened.{opened_content, opened_kept}
 use Rattle.ak_world.specs.Leaves.{Leaf, leaves_from}
 use Rattle.ak_world.specs.Valid.{IsOpenable, AreOpenable}
 use Rattle.ak_world.specs.Views.{View, first_view}
-use Rattle.ak_world.specs.Worlds.{world_of, kept_now}
+use Rattle.ak_world.specs.Worlds.{world_of, all_series, kept_now}
 
 -- ---- The leaves of a view that a disk stands for
 
@@ -79,20 +84,36 @@ laid_openable seen o series (known ∷ others) kept rules (leaves, rest, is, sca
     subst (AreOpenable o.lo (known ∷ others)) (sym is)
     (leaves_openable seen o series known leaves rules scan chain, laid_openable seen o (suc series) others rest rules more)
 
+-- the leaves that were live at the opening are those of the view
+bases_opened : (lo : ℕ) (all : List SeriesMeta) (kept : List (List Leaf)) → AreOpenable lo all kept → map base_of (all_series all kept) ≡ firsts all kept
+bases_opened lo [] kept may = refl
+bases_opened lo (known ∷ others) [] may = absurd may
+bases_opened lo (known ∷ others) (leaves ∷ kept) may = ap (λ (l : List ℕ). (known.leaves - length leaves) ∷ l) (bases_opened lo others kept may.1)
+
 -- ---- A store that is open
 
 -- the store holds what the view did
 pub opened_holds : (view : View) (f : Trees) (host : HostState) → IsMeta view.content → AreOpenable view.content.ordinals.lo view.content.series view.kept → Keeps (world_of view) f
     → IsLaid (seen_in view.content.limits.volumes host.files) view.content view.kept
+    → ArePlanted view.content.ordinals (seen_in view.content.limits.volumes host.files) 0 view.content.series view.kept (firsts view.content.series view.kept) f.levels
     → ((disk : Files) → LeavesNow host disk → IsLeftOf view (file_of view.content.ordinals (newest_ordinal view.content.ordinals)) host.files disk)
     → Holds (world_of view) f host
-opened_holds view f host rules openable keeps laid left =
+opened_holds view f host rules openable keeps laid planted left =
     let file : ℕ = file_of view.content.ordinals (newest_ordinal view.content.ordinals) in
-    let is : IsStored view view.content view.kept file host = record { rules_are = rules; limits_are = refl; laid = laid; saved = laid; left = left } in
+    let bases : List ℕ = bases_of (world_of view) in
+    let first = sym (bases_opened view.content.ordinals.lo view.content.series view.kept openable) in
+    let is : IsStored view view.content view.kept bases f.levels file host = record {
+      rules_are = rules;
+      limits_are = refl;
+      laid = laid;
+      planted = subst (λ (l : List ℕ). ArePlanted view.content.ordinals (seen_in view.content.limits.volumes host.files) 0 view.content.series view.kept l f.levels) first planted;
+      saved = laid;
+      left = left;
+    } in
     record {
       keeps = keeps;
-      stored = subst (λ (c : Content). IsStored view c (kept_now (world_of view)) file host) (sym (opened_content view rules openable))
-          (subst (λ (kept : List (List Leaf)). IsStored view view.content kept file host) (sym (opened_kept view openable)) is);
+      stored = subst (λ (c : Content). IsStored view c (kept_now (world_of view)) bases f.levels file host) (sym (opened_content view rules openable))
+          (subst (λ (kept : List (List Leaf)). IsStored view view.content kept bases f.levels file host) (sym (opened_kept view openable)) is);
     }
 
 -- a disk whose newest record is that of the view, and whose volumes are as they read
@@ -114,7 +135,7 @@ pub made_first : (limits : Limits) (disk : Files) → AreLimits limits → IsMad
 made_first limits disk are made =
     laid_image disk (first_view limits) (first_lawful limits are) made.newest
     (λ file from to. omega (arith, ap length (made.zeros file from to), length-replicate {A = List ℕ} limits.blocks zero_block))
-    (record { rows = (([], refl), tt); leaves = refl })
+    (record { rows = (([], refl), tt); leaves = refl; trees = tt })
 
 pub first_left : (limits : Limits) (file : ℕ) (host : HostState) → AreLimits limits → Rests limits.slot (Some (frame_for 1 (first_content limits))) host → AreEmpty limits host
     → (disk : Files) → LeavesNow host disk → IsLeftOf (first_view limits) file host.files disk
@@ -125,7 +146,7 @@ pub first_is : (limits : Limits) (host : HostState) → AreLimits limits → Res
     → (disk : Files) → LeavesNow host disk → IsFirst limits disk
 first_is limits host are rests empty disk left =
     let is = first_left limits 1 host are rests empty disk left in
-    laid_image disk (first_view limits) (first_lawful limits are) is.newest is.volumes (record { rows = (([], refl), tt); leaves = refl })
+    laid_image disk (first_view limits) (first_lawful limits are) is.newest is.volumes (record { rows = (([], refl), tt); leaves = refl; trees = tt })
 
 -- ---- The index of names
 
@@ -165,10 +186,10 @@ there_of c host rules there = record {
 pub made_there : (limits : Limits) (sizes : List ℕ) → AreMade limits sizes → AreFilesThere limits sizes
 made_there limits sizes made = (made.number, λ file from to. omega (arith, made.volumes file from to))
 
-pub opened_ready : (told : Type 0) (meta : Content) (check : Saving) (keeper : Keeper) (host : HostState) → KeepsOpened meta check keeper
+pub opened_ready : (told : Type 0) (meta : Content) (levels : List Lists) (check : Saving) (keeper : Keeper) (host : HostState) → KeepsOpened meta levels check keeper
     → check.gate.broken ≡ false → check.gate.is_open ≡ true → check.pending ≡ false → check.number ≡ check.gate.number
     → IsSized check.gate.slot host → AreThere meta.ordinals host → (told → Fits check.gate host) → IsReady told keeper host
-opened_ready told meta check keeper host o whole opened idle number sized there fits = record {
+opened_ready told meta levels check keeper host o whole opened idle number sized there fits = record {
   forest = record {
     whole = ap (λ (s : Saving). s.gate.broken) o.check_is ∙ whole;
     opened = ap (λ (s : Saving). s.gate.is_open) o.check_is ∙ opened;
@@ -197,12 +218,12 @@ node_stands view node keeper host fresh is none holds = record {
 
 -- a store that was just made
 pub first_holds : (limits : Limits) (meta : Content) (check : Saving) (keeper : Keeper) (host : HostState) → AreLimits limits → meta ≡ first_content limits → check.number ≡ 1
-    → KeepsOpened meta check keeper → Rests limits.slot (Some (frame_for 1 (first_content limits))) host → AreEmpty limits host → Holds (world_of (first_view limits)) keeper.forest host
+    → KeepsOpened meta [] check keeper → Rests limits.slot (Some (frame_for 1 (first_content limits))) host → AreEmpty limits host → Holds (world_of (first_view limits)) keeper.forest host
 first_holds limits meta check keeper host are is number o rests empty =
     let view = first_view limits in
     let openable : AreOpenable meta.ordinals.lo meta.series [] = subst (λ (m : Content). AreOpenable m.ordinals.lo m.series []) (sym is) refl in
     opened_holds view keeper.forest host (first_lawful limits are) refl (o.keeps view (sym is) (sym number) openable)
-    (record { rows = (([], refl), tt); leaves = refl }) (first_left limits (file_of view.content.ordinals (newest_ordinal view.content.ordinals)) host are rests empty)
+    (record { rows = (([], refl), tt); leaves = refl; trees = tt }) (refl, refl, o.levels_are) (first_left limits (file_of view.content.ordinals (newest_ordinal view.content.ordinals)) host are rests empty)
 
 -- ---- The view that is found
 
@@ -231,18 +252,35 @@ found_is slot number meta files rules slot_is blocks newest_is = record {
 }
 
 -- a node that is over what was found
-pub node_found : (number : ℕ) (meta : Content) (check : Saving) (keeper : Keeper) (node : Node) (files : Files) → node.keeper ≡ keeper → KeepsOpened meta check keeper → check.number ≡ number
+pub node_found : (number : ℕ) (meta : Content) (levels : List Lists) (check : Saving) (keeper : Keeper) (node : Node) (files : Files) → node.keeper ≡ keeper → KeepsOpened meta levels check keeper → check.number ≡ number
     → IsFoundRecord number meta files → IsFoundRecord node.keeper.forest.check.number node.keeper.forest.meta files
-node_found number meta check keeper node files is o numbered found =
+node_found number meta levels check keeper node files is o numbered found =
     let here : IsFoundRecord keeper.forest.check.number keeper.forest.meta files =
     subst (λ (m : Content). IsFoundRecord keeper.forest.check.number m files) (sym o.meta_is) (subst (λ (n : ℕ). IsFoundRecord n meta files) (sym (ap (λ (s : Saving). s.number) o.check_is ∙ numbered)) found) in
     subst (λ (k : Keeper). IsFoundRecord k.forest.check.number k.forest.meta files) (sym is) here
 
+-- the leaves of the view that is found are laid out by its record
+pub found_laid : (view : View) (number : ℕ) (meta : Content) (files : Files) → IsFoundView view number meta → IsSound files → StandsFor view files
+    → IsLaid (seen_in meta.limits.volumes files) meta view.kept
+found_laid view number meta files is sound stands = subst (λ (c : Content). IsLaid (seen_in c.limits.volumes files) c view.kept) is.content_is (sound_laid files view sound stands).1
+
+-- the leaves of a sound disk are
+pub sound_found : (slot number : ℕ) (meta : Content) (files : Files) → IsSound files → IsMeta meta → meta.limits.slot ≡ slot → length (file_at files 0) ≡ 2 + 2 * slot
+    → newest slot files ≡ Some (frame_for number meta) → (kept : List (List Leaf)) × IsLaid (seen_in meta.limits.volumes files) meta kept
+sound_found slot number meta files sound rules slot_is blocks newest_is =
+    let there = sound_view files sound in
+    let view : View = there.0 in
+    (view.kept, found_laid view number meta files (found_view view files slot number meta there.1 rules slot_is blocks newest_is) sound there.1)
+
+-- what waits of each series, as the leaves of the view make it
+abbrev pub IsRepaired : Content → List Lists → View → Files → Type 0
+IsRepaired meta levels view files = ArePlanted meta.ordinals (seen_in meta.limits.volumes files) 0 meta.series view.kept (firsts meta.series view.kept) levels
+
 -- the files that are synced are as they read, whatever a stop leaves
-pub found_holds : (view : View) (number : ℕ) (meta : Content) (check : Saving) (keeper : Keeper) (host : HostState) → IsFoundView view number meta → check.number ≡ number
-    → KeepsOpened meta check keeper → IsSound host.files → StandsFor view host.files → AreFilesThere meta.limits host.sizes
+pub found_holds : (view : View) (number : ℕ) (meta : Content) (levels : List Lists) (check : Saving) (keeper : Keeper) (host : HostState) → IsFoundView view number meta → check.number ≡ number
+    → KeepsOpened meta levels check keeper → IsSound host.files → StandsFor view host.files → IsRepaired meta levels view host.files → AreFilesThere meta.limits host.sizes
     → ((file : ℕ) → file < length host.sizes → IsStable file host) → Holds (world_of view) keeper.forest host
-found_holds view number meta check keeper host is numbered o sound stands there stable =
+found_holds view number meta levels check keeper host is numbered o sound stands repaired there stable =
     let c = view.content in
     let laid = sound_laid host.files view sound stands in
     let openable = laid_openable (seen_in c.limits.volumes host.files) c.ordinals 0 c.series view.kept stands.rules_are.ordinals_are laid.1.leaves in
@@ -251,6 +289,7 @@ found_holds view number meta check keeper host is numbered o sound stands there 
     opened_holds view keeper.forest host stands.rules_are openable
     (o.keeps view is.content_is (is.number_is ∙ sym numbered) (subst (λ (m : Content). AreOpenable m.ordinals.lo m.series view.kept) is.content_is openable))
     laid.1
+    (subst (λ (l : List Lists). IsRepaired view.content l view host.files) (sym o.levels_are) (subst (λ (m : Content). IsRepaired m levels view host.files) (sym is.content_is) repaired))
     (λ disk left. left_of view (file_of c.ordinals (newest_ordinal c.ordinals)) host.files disk stands.rules_are
     (newest_same host.files disk c.limits.slot view.number c (sym (same disk left 0 (omega arith))) stands.newest) laid.0 (λ file from to. same disk left file to))
 
@@ -289,6 +328,20 @@ open_sound told t old new sound Port why = absurd why
 open_sound told t old new sound Budget why = absurd why
 open_sound told t old new sound (Worn ordinal fill number) why = absurd why
 open_sound told t old new sound Exists why = absurd why
+
+-- why a store isn't opened, while what waits of its series is rebuilt
+pub stop_repaired : (told : Type 0) (number : ℕ) (found : Content) (old mid new : HostState) (s : Stop) → (told → IsFoundRecord number found old.files) → old.disk_faults ≤ mid.disk_faults
+    → (told → new.files ≡ mid.files) → IsReadStop (λ file block. told → IsDamagedLeaf found file block mid.files) mid new s → IsNodeOpenStop told old new s
+stop_repaired told number found old mid new (Damaged file block) record_is later files why =
+    λ t. inr (number, found, record_is t, subst (IsDamagedLeaf found file block) (sym (files t)) (why t))
+stop_repaired told number found old mid new Disk record_is later files why = omega (arith, later, why)
+stop_repaired told number found old mid new Memory record_is later files why = tt
+stop_repaired told number found old mid new NoStore record_is later files why = absurd why
+stop_repaired told number found old mid new Usage record_is later files why = absurd why
+stop_repaired told number found old mid new Port record_is later files why = absurd why
+stop_repaired told number found old mid new Budget record_is later files why = absurd why
+stop_repaired told number found old mid new (Worn ordinal fill last) record_is later files why = absurd why
+stop_repaired told number found old mid new Exists record_is later files why = absurd why
 
 pub file_long : (host : HostState) → map length host.files ≡ host.sizes → length (file_at host.files 0) ≡ slice_index host.sizes 0
 file_long host sized = sym (length_file host.files) ∙ ap (λ (sizes : List ℕ). slice_index sizes 0) sized

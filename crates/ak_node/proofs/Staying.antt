@@ -8,8 +8,11 @@ use Rattle.ak_host.specs.Moments.{HostState, LeavesNow, Passes, PortPasses}
 use Rattle.ak_host.proofs.Passing.{passes_weaker, ports_leave}
 use Rattle.ak_image.specs.Blocks.{AreThere, seen_in}
 use Rattle.ak_image.specs.Laid.{IsLaid}
+use Rattle.ak_image.specs.Planted.{ArePlanted}
+use Rattle.ak_levels.specs.Pending.{Lists}
 use Rattle.ak_meta.specs.Contents.{Content}
 use Rattle.ak_run.proofs.Growing.{last_in, stays_in}
+use Rattle.ak_tree.specs.Standing.{bases_of}
 use Rattle.ak_tree.specs.Storing.{IsStored, IsLeftOf, LeavesView}
 use Rattle.ak_tree.proofs.Stored.{stands_last}
 use Rattle.ak_volumes.specs.Ordinals.{newest, file_of}
@@ -24,7 +27,7 @@ use Rattle.ak_node.specs.Standing.{IsReady, Holds, LeavesLast}
 
 pub left_last : (content : Store) (keeper : Keeper) (host : HostState) → Holds content keeper host → (disk : Files) → LeavesNow host disk → LeavesLast content disk
 left_last content keeper host holds disk left =
-    stands_last content.last (content_now content) (kept_now content) (file_of content.ordinals (newest content.ordinals)) host holds.stored disk left
+    stands_last content.last (content_now content) (kept_now content) (bases_of content) keeper.forest.levels (file_of content.ordinals (newest content.ordinals)) host holds.stored disk left
 
 -- the last view is one of those of a later store
 pub last_left : (content next : Store) (disk : Files) → Goes content next → LeavesLast content disk → LeavesView content next disk
@@ -38,12 +41,13 @@ last_left content next disk goes left = record {
 
 -- ---- Calls of ports
 
-stored_still : (last : View) (c : Content) (kept : List (List Leaf)) (file : ℕ) (old new : HostState) → IsStored last c kept file old → new.files ≡ old.files → ((disk : Files) → LeavesNow new disk → LeavesNow old disk)
-    → IsStored last c kept file new
-stored_still last c kept file old new stored files back = record {
+stored_still : (last : View) (c : Content) (kept : List (List Leaf)) (bases : List ℕ) (levels : List Lists) (file : ℕ) (old new : HostState) → IsStored last c kept bases levels file old → new.files ≡ old.files → ((disk : Files) → LeavesNow new disk → LeavesNow old disk)
+    → IsStored last c kept bases levels file new
+stored_still last c kept bases levels file old new stored files back = record {
   rules_are = stored.rules_are;
   limits_are = stored.limits_are;
   laid = subst (λ (l : Files). IsLaid (seen_in c.limits.volumes l) c kept) (sym files) stored.laid;
+  planted = subst (λ (l : Files). ArePlanted c.ordinals (seen_in c.limits.volumes l) 0 c.series kept bases levels) (sym files) stored.planted;
   saved = subst (λ (l : Files). IsLaid (seen_in c.limits.volumes l) last.content last.kept) (sym files) stored.saved;
   left = λ disk left. subst (λ (l : Files). IsLeftOf last file l disk) (sym files) (stored.left disk (back disk left));
 }
@@ -51,7 +55,7 @@ stored_still last c kept file old new stored files back = record {
 pub holds_still : (content : Store) (keeper : Keeper) (old new : HostState) → Holds content keeper old → new.files ≡ old.files → ((disk : Files) → LeavesNow new disk → LeavesNow old disk) → Holds content keeper new
 holds_still content keeper old new holds files back = record {
   keeps = holds.keeps;
-  stored = stored_still content.last (content_now content) (kept_now content) (file_of content.ordinals (newest content.ordinals)) old new holds.stored files back;
+  stored = stored_still content.last (content_now content) (kept_now content) (bases_of content) keeper.forest.levels (file_of content.ordinals (newest content.ordinals)) old new holds.stored files back;
 }
 
 -- what the store holds

@@ -9,11 +9,13 @@ use Rattle.ak_host.specs.Files.{Files, file_at}
 use Rattle.ak_host.specs.Moments.{HostState}
 use Rattle.ak_image.specs.Blocks.{seen_in, AreThere}
 use Rattle.ak_image.specs.Laid.{IsLaid}
+use Rattle.ak_image.specs.Planted.{ArePlanted}
+use Rattle.ak_levels.specs.Pending.{Lists}
 use Rattle.ak_meta.specs.Contents.{Content, names_of}
-use Rattle.ak_node.proofs.OnlyReading.{left_before}
+use Rattle.ak_repair.proofs.OnlyReading.{left_before}
 use Rattle.ak_node.specs.Calls.{HasStops, StopsBy}
-use Rattle.ak_node.specs.Damage.{IsDamagedLeaf}
-use Rattle.ak_node.specs.Reads.{OnlyReads, IsReadStop}
+use Rattle.ak_repair.specs.Damage.{IsDamagedLeaf}
+use Rattle.ak_repair.specs.Reads.{OnlyReads, IsReadStop}
 use Rattle.ak_node.specs.Standing.{IsReady, Holds}
 use Rattle.ak_node.specs.declared.keeper.Keeper.{Keeper}
 use Rattle.ak_tree.proofs.Becoming.{becomes_same}
@@ -65,11 +67,13 @@ ready_still {told} before after old new forest names reads ready = record {
 
 -- ---- Held
 
-stored_still : {told : Type 0} (last : View) (c : Content) (kept : List (List Leaf)) (file : ℕ) (old new : HostState) → OnlyReads told old new → told → IsStored last c kept file old → IsStored last c kept file new
-stored_still last c kept file old new reads is stored = record {
+stored_still : {told : Type 0} (last : View) (c : Content) (kept : List (List Leaf)) (bases : List ℕ) (levels : List Lists) (file : ℕ) (old new : HostState) → OnlyReads told old new → told
+    → IsStored last c kept bases levels file old → IsStored last c kept bases levels file new
+stored_still last c kept bases levels file old new reads is stored = record {
   rules_are = stored.rules_are;
   limits_are = stored.limits_are;
   laid = subst (λ (files : Files). IsLaid (seen_in c.limits.volumes files) c kept) (sym (reads.files is)) stored.laid;
+  planted = subst (λ (files : Files). ArePlanted c.ordinals (seen_in c.limits.volumes files) 0 c.series kept bases levels) (sym (reads.files is)) stored.planted;
   saved = subst (λ (files : Files). IsLaid (seen_in c.limits.volumes files) last.content last.kept) (sym (reads.files is)) stored.saved;
   left = λ disk left. subst (λ (files : Files). IsLeftOf last file files disk) (sym (reads.files is)) (stored.left disk (left_before reads is disk left));
 }
@@ -77,7 +81,7 @@ stored_still last c kept file old new reads is stored = record {
 pub holds_still : {told : Type 0} (content : Store) (before after : Keeper) (old new : HostState) → after.forest ≡ before.forest → OnlyReads told old new → told → Holds content before old → Holds content after new
 holds_still content before after old new forest reads is holds = subst (λ (f : Trees). ForestHolds content f new) (sym forest) (record {
   keeps = holds.keeps;
-  stored = stored_still _ _ _ _ old new reads is holds.stored;
+  stored = stored_still _ _ _ _ _ _ old new reads is holds.stored;
 })
 
 -- ---- Stops

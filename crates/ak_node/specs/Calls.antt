@@ -6,7 +6,7 @@ use Rattle.ak_host.specs.Causes.{Rose}
 use Rattle.ak_host.specs.Marks.{Mark, Telling, told_to}
 use Rattle.ak_host.specs.Moments.{HostState, mark_now}
 use Rattle.ak_meta.specs.Contents.{Content}
-use Rattle.ak_node.specs.Damage.{IsDamagedLeaf}
+use Rattle.ak_repair.specs.Damage.{IsDamagedLeaf}
 use Rattle.ak_tree.specs.Later.{Becomes}
 
 -- A node whose record was this, and is that now, stops for want of memory, where a call of the disk or of the ports failed and

@@ -1,6 +1,3 @@
-pub mod Reads
-pub mod Walks
-pub mod Damage
 pub mod Calls
 pub mod Standing
 pub mod Pieces

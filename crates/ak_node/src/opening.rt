@@ -1,26 +1,35 @@
 //! Opens a store, or makes one.
-ghost use Rattle.std.specs.Prelude.{◌≡◌, ◌⊎◌, ◌+◌, ◌*◌, ◌≤◌, [], false, Some, None, slice_index, IfOk, IfErr};
+ghost use Rattle.std.specs.Prelude.{ℕ, List, ◌≡◌, ◌⊎◌, ◌+◌, ◌*◌, ◌≤◌, [], false, Some, None, slice_index, IfOk, IfErr};
 ghost use Rattle.ak_base.specs.Ranges.{AreLimits};
 ghost use Rattle.ak_host.specs.Files.{Files};
 ghost use Rattle.ak_host.specs.Moments.{DiskPasses, LeavesNow};
+ghost use Rattle.ak_image.specs.Blocks.{seen_in, AreThere};
 ghost use Rattle.ak_image.specs.Images.{IsSound, StandsFor};
-ghost use Rattle.ak_meta.specs.Contents.{IsMeta, names_of, size_of};
-ghost use Rattle.ak_node.specs.Opening.{IsFirst, IsFoundRecord, KeepsOpened};
+ghost use Rattle.ak_image.specs.Laid.{IsLaid};
+ghost use Rattle.ak_image.specs.Planted.{AreAllLawful, ArePlanted};
+ghost use Rattle.ak_meta.specs.Contents.{IsMeta, leaves_of, names_of, size_of};
+ghost use Rattle.ak_node.specs.Opening.{IsFirst, IsFoundRecord, IsNodeOpenStop, KeepsOpened};
 ghost use Rattle.ak_node.specs.Standing.{CanServe, Stands};
-ghost use Rattle.ak_record.specs.Stops.{IsNoStore, IsTaken, IsOpenStop, IsMakeStop};
+ghost use Rattle.ak_record.specs.Stops.{IsNoStore, IsTaken, IsMakeStop};
+ghost use Rattle.ak_repair.specs.Damage.{IsDamagedLeaf};
+ghost use Rattle.ak_repair.specs.Firsts.{firsts};
+ghost use Rattle.ak_repair.specs.Reads.{OnlyReads, IsReadStop};
 ghost use Rattle.ak_run.specs.Run.{world_of};
+ghost use Rattle.ak_world.specs.Leaves.{Leaf};
 ghost use Rattle.ak_world.specs.Views.{View, first_view};
 
 use crate::keeper::Keeper;
 use crate::node::Node;
 use ak_base::{Limits, Stop};
-use ak_cache::Cached;
+use ak_cache::{Cached, Reach};
 use ak_checkpoint::{Checkpoint, make_store};
 use ak_host::Disk;
 use ak_leaf::LeafBuf;
+use ak_levels::LevelsList;
 use ak_meta::Meta;
 use ak_names::Index;
 use ak_record::{Opened, open_newest, sync_all};
+use ak_repair::repair;
 use ak_tree::Forest;
 use std::alloc::{AllocError, Global};
 
@@ -40,34 +49,110 @@ fn index_of(alloc: Global, meta: &Meta) -> Result<Index, AllocError>
     Ok(index)
 }
 
-/// A store over the record of a view, whose last checkpoint this is. No leaf is open.
-fn keep(alloc: Global, meta: Meta, check: Checkpoint) -> Result<Keeper, AllocError>
+/// What a store has in memory of its leaves: what waits of each series, a cache of blocks, and a leaf to read into.
+#[derive(Drop)]
+struct Waiting {
+    levels: LevelsList,
+    cache: Cached,
+    scratch: LeafBuf,
+}
+
+impl Waiting {
+    /// What a store without series has.
+    fn new(alloc: Global) -> Result<Waiting, AllocError>
+        ensures { IfOk result (λ waiting. waiting.levels ≡ []) }
+    {
+        Ok(Waiting {
+            levels: LevelsList::new(alloc),
+            cache: Cached::new(alloc, CACHE_BLOCKS)?,
+            scratch: LeafBuf::new(alloc)?,
+        })
+    }
+
+    /// What a store of this record has, where what waits of each series is rebuilt from its live leaves, which are read from the
+    /// disk. `Disk` where a read failed, `Damaged` with the file and the block where a live block doesn't spell the leaf that is
+    /// named to stand there, and `Memory` where there is none.
+    fn repaired<D: Disk>(alloc: Global, disk: &mut D, meta: &Meta) -> Result<Waiting, Stop>
+        requires rules { IsMeta meta.now }
+        requires there { AreThere meta.now.ordinals (D.state disk.old) }
+        ensures reads { OnlyReads D.tells (D.state disk.old) (D.state disk.new) }
+        ensures stops { IfErr result (IsReadStop
+            (λ file block. D.tells → IsDamagedLeaf meta.now file block (D.state disk.old).files)
+            (D.state disk.old) (D.state disk.new)) }
+        ensures lawful { IfOk result (λ waiting. AreAllLawful meta.now.series waiting.levels) }
+        ensures planted { D.tells → (kept : List (List Leaf)) → IsLaid (seen_in meta.now.limits.volumes (D.state disk.old).files) meta.now kept
+            → IfOk result (λ waiting. ArePlanted meta.now.ordinals (seen_in meta.now.limits.volumes (D.state disk.old).files) 0
+            meta.now.series kept (firsts meta.now.series kept) waiting.levels) }
+        ensures sound { D.tells → (kept : List (List Leaf)) → IsLaid (seen_in meta.now.limits.volumes (D.state disk.old).files) meta.now kept
+            → IfErr result (λ stop. (stop ≡ Stop.Disk) ⊎ (stop ≡ Stop.Memory)) }
+        ensures few { D.tells → (D.state disk.new).reads ≤ (D.state disk.old).reads + 2 * leaves_of meta.now.series }
+    {
+        let Ok(mut waiting) = Waiting::new(alloc) else {
+            return Err(Stop::Memory);
+        };
+        let mut reach = Reach {
+            disk,
+            volumes: meta.volumes(),
+            cache: &mut waiting.cache,
+            scratch: &mut waiting.scratch,
+        };
+        let levels = repair(alloc, &mut reach, meta)?;
+        waiting.levels = levels;
+        Ok(waiting)
+    }
+}
+
+/// A store over the record of a view, whose last checkpoint this is, with what waits of its series. No leaf is open.
+fn keep(
+    alloc: Global,
+    meta: Meta,
+    waiting: Waiting,
+    check: Checkpoint,
+) -> Result<Keeper, AllocError>
     requires rules { IsMeta meta }
     requires room { 16 + size_of meta ≤ 4096 * meta.limits.slot }
     requires slot { check.gate.slot ≡ meta.limits.slot }
-    ensures opened { IfOk result (λ keeper. KeepsOpened meta check keeper) }
+    requires lawful { AreAllLawful meta.series waiting.levels }
+    ensures opened { IfOk result (λ keeper. KeepsOpened meta waiting.levels check keeper) }
 {
     let names = index_of(alloc, &meta)?;
-    let forest = Forest::new(alloc, meta, check)?;
+    let Waiting {
+        levels,
+        cache,
+        scratch,
+    } = waiting;
     Ok(Keeper {
-        forest,
+        forest: Forest::new(alloc, meta, levels, check)?,
         names,
-        cache: Cached::new(alloc, CACHE_BLOCKS)?,
-        scratch: LeafBuf::new(alloc)?,
+        cache,
+        scratch,
     })
 }
 
-/// A store over the newest record as it was found.
-fn keep_opened(alloc: Global, opened: Opened) -> Result<Keeper, AllocError>
+/// A store over the newest record as it was found, with what waits of its series.
+fn keep_opened(alloc: Global, opened: Opened, waiting: Waiting) -> Result<Keeper, AllocError>
     requires rules { IsMeta opened.meta }
     requires room { 16 + size_of opened.meta ≤ 4096 * opened.meta.limits.slot }
     requires slot { opened.gate.slot ≡ opened.meta.limits.slot }
-    ensures opened { IfOk result (λ keeper. KeepsOpened opened.meta
+    requires lawful { AreAllLawful opened.meta.series waiting.levels }
+    ensures opened { IfOk result (λ keeper. KeepsOpened opened.meta waiting.levels
         (record { gate = opened.gate; pending = false; number = opened.gate.number; bytes = []; file = 0 }) keeper) }
 {
     let Opened { gate, meta } = opened;
     let check = Checkpoint::new(alloc, gate)?;
-    keep(alloc, meta, check)
+    keep(alloc, meta, waiting, check)
+}
+
+/// A store without series, whose last checkpoint this is.
+fn keep_first(alloc: Global, meta: Meta, check: Checkpoint) -> Result<Keeper, AllocError>
+    requires rules { IsMeta meta }
+    requires room { 16 + size_of meta ≤ 4096 * meta.limits.slot }
+    requires slot { check.gate.slot ≡ meta.limits.slot }
+    requires empty { meta.series ≡ [] }
+    ensures opened { IfOk result (λ keeper. KeepsOpened meta [] check keeper) }
+{
+    let waiting = Waiting::new(alloc)?;
+    keep(alloc, meta, waiting, check)
 }
 
 impl Node {
@@ -84,15 +169,17 @@ impl Node {
         }
     }
 
-    /// Opens the newest view that the disk has. Each file is synced first.
+    /// Opens the newest view that the disk has. Each file is synced first. What waits of each series is rebuilt from its live
+    /// leaves.
     ///
     /// # Errors
     ///
     /// `NoStore` where file 0 isn't there, has an odd number of blocks or fewer than 4, or no gate is open. `Damaged` where the
-    /// body of an open gate is no record, with file 0 and the block where that body begins, and where the file of a volume is
-    /// missing or short, with that file and the number of its blocks. `Disk` where a call of the disk failed. `Memory`.
+    /// body of an open gate is no record, with file 0 and the block where that body begins, where the file of a volume is
+    /// missing or short, with that file and the number of its blocks, and where a live block doesn't spell the leaf that is
+    /// named to stand there, with its file and its place. `Disk` where a call of the disk failed. `Memory`.
     pub fn open<D: Disk>(alloc: Global, disk: &mut D) -> Result<Node, Stop>
-        ensures err { IfErr result (IsOpenStop D.tells (D.state disk.old) (D.state disk.new)) }
+        ensures err { IfErr result (IsNodeOpenStop D.tells (D.state disk.old) (D.state disk.new)) }
         ensures no_store { D.tells → IsNoStore (D.state disk.old).files → IfOk result (λ node. ⊥) }
         ensures found { D.tells → IfOk result (λ node. IsFoundRecord node.keeper.forest.check.number node.keeper.forest.meta (D.state disk.old).files) }
         ensures fresh { IfOk result (λ node. node.stop ≡ None) }
@@ -104,7 +191,9 @@ impl Node {
         ensures disk_later { (D.state disk.old).disk_faults ≤ (D.state disk.new).disk_faults }
         ensures port_faults { (D.state disk.new).port_faults ≡ (D.state disk.old).port_faults }
         ensures files { D.tells → (D.state disk.new).files ≡ (D.state disk.old).files }
-        ensures reads { D.tells → (D.state disk.new).reads ≤ (D.state disk.old).reads + slice_index (D.state disk.old).sizes 0 }
+        // It makes no more reads than file 0 has blocks and twice those of the leaves, and writes nothing.
+        ensures reads { D.tells → IfOk result (λ node.
+            (D.state disk.new).reads ≤ (D.state disk.old).reads + slice_index (D.state disk.old).sizes 0 + 2 * leaves_of node.keeper.forest.meta.series) }
         ensures writes { D.tells → (D.state disk.new).writes ≡ (D.state disk.old).writes }
         ensures moments { D.tells → DiskPasses (LeavesNow (D.state disk.old)) (D.state disk.old) (D.state disk.new) }
     {
@@ -113,7 +202,8 @@ impl Node {
         }
         sync_all(disk)?;
         let opened = open_newest(alloc, disk)?;
-        match keep_opened(alloc, opened) {
+        let waiting = Waiting::repaired(alloc, disk, &opened.meta)?;
+        match keep_opened(alloc, opened, waiting) {
             Ok(keeper) => Ok(Node::over(alloc, keeper)),
             Err(_) => Err(Stop::Memory),
         }
@@ -139,7 +229,7 @@ impl Node {
         ensures passes { D.tells → DiskPasses (λ left. Unit {0}) (D.state disk.old) (D.state disk.new) }
     {
         let (meta, check) = make_store(alloc, disk, limits)?;
-        match keep(alloc, meta, check) {
+        match keep_first(alloc, meta, check) {
             Ok(keeper) => Ok(Node::over(alloc, keeper)),
             Err(_) => Err(Stop::Memory),
         }

@@ -3,10 +3,11 @@ ghost use Rattle.std.specs.Prelude.{ℕ, List, ◌≡◌, ◌+◌, ◌*◌, ◌�
 ghost use Rattle.std.specs.List.{AllByRecursion, list_any};
 ghost use Rattle.std.specs.Str.{bytes_eq};
 ghost use Rattle.ak_host.specs.Moments.{DiskPasses};
+ghost use Rattle.ak_levels.specs.Pending.{no_lists};
 ghost use Rattle.ak_meta.specs.Contents.{IsCanonical, names_of, size_of};
 ghost use Rattle.ak_meta.specs.Leaves.{with_series};
 ghost use Rattle.ak_node.specs.Calls.{HasStops, IsSoundStop};
-ghost use Rattle.ak_node.specs.Names.{late_known, with_all, ArePlaces};
+ghost use Rattle.ak_node.specs.Names.{late_known, with_all, levels_with, ArePlaces};
 ghost use Rattle.ak_node.specs.Standing.{IsReady, Holds};
 ghost use Rattle.ak_tree.specs.Later.{Becomes};
 ghost use Rattle.ak_tree.specs.Standing.{Keeps, last_known};
@@ -28,7 +29,7 @@ fn add_name(alloc: Global, keeper: &mut Keeper, name: &Text) -> Result<(), Alloc
     requires new { list_any (λ n. bytes_eq name.now n) keeper.old.names ≡ false }
     requires room { 16 + size_of (with_series keeper.old.forest.meta name.now) ≤ 4096 * keeper.old.forest.meta.limits.slot }
     ensures index { OnOk result (keeper.new.names ≡ keeper.old.names ++ name.now ∷ []) }
-    ensures forest { OnOk result (keeper.new.forest ≡ record keeper.old.forest { meta = with_series keeper.old.forest.meta name.now; frames = keeper.old.forest.frames ++ None ∷ [] }) }
+    ensures forest { OnOk result (keeper.new.forest ≡ record keeper.old.forest { meta = with_series keeper.old.forest.meta name.now; frames = keeper.old.forest.frames ++ None ∷ []; levels = keeper.old.forest.levels ++ no_lists ∷ [] }) }
     ensures keeps { (content : Store) → Keeps content keeper.old.forest
         → OnOk result (Keeps (record content { series = with_name content.series name.now }) keeper.new.forest) }
 {
@@ -48,7 +49,7 @@ fn add_names(alloc: Global, keeper: &mut Keeper, names: &[Text]) -> Result<(), A
     ensures index { OnOk result (keeper.new.names ≡ names_of keeper.new.forest.meta.series) }
     ensures longer { OnOk result ((more : List (List ℕ)) × (keeper.new.names ≡ keeper.old.names ++ more)) }
     ensures known { OnOk result (AllByRecursion (λ name. list_any (λ n. bytes_eq name n) keeper.new.names ≡ true) names.now) }
-    ensures forest { OnOk result (keeper.new.forest ≡ record keeper.old.forest { meta = with_all keeper.old.forest.meta names.now; frames = keeper.new.forest.frames }) }
+    ensures forest { OnOk result (keeper.new.forest ≡ record keeper.old.forest { meta = with_all keeper.old.forest.meta names.now; frames = keeper.new.forest.frames; levels = levels_with keeper.old.forest.meta keeper.old.forest.levels names.now }) }
     ensures last { (n : ℕ) → OnOk result (IfSome (last_known keeper.new.forest n) (λ last. last_known keeper.old.forest n ≡ Some last)) }
     ensures keeps { (content : Store) → Keeps content keeper.old.forest → OnOk result (Keeps (named content names.now) keeper.new.forest) }
 {

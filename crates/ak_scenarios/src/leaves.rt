@@ -3,10 +3,12 @@ ghost use Rattle.std.specs.Prelude.{◌≡◌, ◌<◌, true, length, slice_inde
 
 use crate::stops::{NO_POINT, ONE_POINT, QUERY, RUN, call, last_moment, made, perform, shows};
 use crate::tests::cut;
-use ak_base::Bytes;
+use ak_base::{Addr, Bytes};
 use ak_host::Disk;
+use ak_inner::Inner;
 use ak_memhost::MemHost;
 use std::alloc::{AllocError, Global};
+use std::process::Abort;
 use std::test::Fail;
 
 const CREATE: &str = "create d --volumes 2 --blocks 16 --slot 1 --pool 4 --every 1000 --scale 0";
@@ -198,7 +200,7 @@ fn is_block<D: Disk>(disk: &D, file: u32, index: u32) -> bool
     file < disk.files() && index < disk.blocks(file)
 }
 
-// A leaf that was overwritten is told by the query that reads it.
+// A leaf that was overwritten is told as the store is opened.
 #[test]
 fn a_zeroed_leaf_is_told(rt: HostRuntime) -> Result<(), Fail> {
     let alloc = rt.alloc();
@@ -210,9 +212,86 @@ fn a_zeroed_leaf_is_told(rt: HostRuntime) -> Result<(), Fail> {
     let is_there = is_block(&host, 1, 0) && host.moments() == 1;
     assert!(rt; is_there);
     host.plant(1, 0, &[0; 4096]);
-    let status = call(alloc, &mut host, RUN, QUERY)?;
+    let status = call(alloc, &mut host, RUN, b"")?;
     assert_eq!(rt; status, 2);
     assert_eq!(rt; host.told(1), b"".as_slice());
     assert_eq!(rt; host.told(0), b"akl: damaged file 1 block 0\n".as_slice());
+    Ok(())
+}
+
+// A store with 64 blocks to a volume, in which leaves of one point each were closed by flushes: the point of each has a time
+// and a value, from these on.
+fn flushed<R: Abort>(
+    rt: &R,
+    alloc: Global,
+    host: &mut MemHost,
+    from: u64,
+    to: u64,
+) -> Result<(), Fail> {
+    let mut stream = Bytes::new(alloc);
+    for time in from..to {
+        stream.extend(alloc, b"+cpu\r\n:")?;
+        stream.extend_decimal(alloc, time)?;
+        stream.extend(alloc, b"\r\n:")?;
+        stream.extend_decimal(alloc, time)?;
+        stream.extend(alloc, b"\r\n+!flush\r\n")?;
+    }
+    let status = call(alloc, host, RUN, stream.as_slice())?;
+    assert_eq!(rt; status, 0);
+    Ok(())
+}
+
+const CREATE_WIDER: &str =
+    "create d --volumes 2 --blocks 64 --slot 1 --pool 4 --every 1000 --scale 0";
+
+// The references of the inner node of series 0 in a block of file 1, where it is one with this level and this number.
+fn inner_node(host: &mut MemHost, index: u32, level: u8, number: u64) -> Option<Inner> {
+    let mut block = [0; 4096];
+    let mut node = Inner::new();
+    if is_block(host, 1, index) && host.read(1, index, &mut block).is_ok() {
+        node.decode(&block, level, 0, number, Addr(u64::from(index)))?;
+        return Some(node);
+    }
+    None
+}
+
+// The 32nd leaf fills level 1: the block behind it is the first node of that level, and refers to all leaves.
+#[test]
+fn an_inner_node_behind_leaves(rt: HostRuntime) -> Result<(), Fail> {
+    let alloc = rt.alloc();
+    let mut host = made(&rt, alloc, CREATE_WIDER)?;
+    flushed(&rt, alloc, &mut host, 1, 33)?;
+    let Some(node) = inner_node(&mut host, 32, 1, 0) else {
+        assert!(rt; false);
+        return Ok(());
+    };
+    let refs = node.refs();
+    assert_eq!(rt; refs.len(), 32);
+    for (i, r) in refs.iter().enumerate() {
+        assert_eq!(rt; r.addr, Addr(i as u64));
+        assert_eq!(rt; r.first_leaf, Addr(i as u64));
+        assert_eq!(rt; r.summary.count, 1);
+        assert_eq!(rt; r.summary.sum, i as i128 + 1);
+    }
+    Ok(())
+}
+
+// What waits is the same after an opening: the node behind the 32nd leaf refers to the leaves of two runs.
+#[test]
+fn an_inner_node_over_two_runs(rt: HostRuntime) -> Result<(), Fail> {
+    let alloc = rt.alloc();
+    let mut host = made(&rt, alloc, CREATE_WIDER)?;
+    flushed(&rt, alloc, &mut host, 1, 11)?;
+    flushed(&rt, alloc, &mut host, 11, 33)?;
+    let Some(node) = inner_node(&mut host, 32, 1, 0) else {
+        assert!(rt; false);
+        return Ok(());
+    };
+    let refs = node.refs();
+    assert_eq!(rt; refs.len(), 32);
+    for (i, r) in refs.iter().enumerate() {
+        assert_eq!(rt; r.addr, Addr(i as u64));
+        assert_eq!(rt; r.summary.sum, i as i128 + 1);
+    }
     Ok(())
 }

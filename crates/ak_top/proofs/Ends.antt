@@ -13,7 +13,7 @@ use Rattle.ak_host.specs.Marks.{Mark, Taken, done, Telling, told_to}
 use Rattle.ak_host.specs.Moments.{HostState, Passes, DiskPasses, PortPasses, HoldsFrom, mark_now}
 use Rattle.ak_host.proofs.Passing.{passes_weaker, mark_holds, holds_here, holds_on}
 use Rattle.ak_node.specs.Calls.{Begins, Told, IsSilent}
-use Rattle.ak_node.specs.Damage.{IsDamagedLeaf}
+use Rattle.ak_repair.specs.Damage.{IsDamagedLeaf}
 use Rattle.ak_record.specs.Stops.{IsTaken}
 use Rattle.ak_world.specs.Views.{View}
 use Rattle.ak_words.specs.Words.{IsCommand}

@@ -1,5 +1,5 @@
 -- A disk without a store: none of it is damaged.
-use Rattle.std.proofs.Common.{◌≡◌, inl, inr, ℕ, Bool, true, false, List, [], ◌∷◌, length, Option, Some, None, refl, sym, ap, subst, arith}
+use Rattle.std.proofs.Common.{◌≡◌, ◌⊎◌, inl, inr, ℕ, Bool, true, false, List, [], ◌∷◌, length, Option, Some, None, refl, sym, ap, subst, arith}
 use Rattle.ak_base.specs.declared.stop.Stop.{Stop}
 use Rattle.ak_base.specs.declared.stop.Stop.TheVariants.{Usage, Damaged, Disk, Port, Memory, Budget, Worn, NoStore, Exists}
 use Rattle.ak_gate.specs.declared.half.Half.TheVariants.{First, Second}
@@ -7,7 +7,10 @@ use Rattle.ak_gate.specs.Slots.{Frame, newest, newest_in, newest_of, frame_of, b
 use Rattle.ak_host.specs.Files.{Files, file_at}
 use Rattle.ak_host.specs.Moments.{HostState}
 use Rattle.ak_meta.proofs.Contents.{size_spelled}
-use Rattle.ak_record.specs.Stops.{IsNoStore, IsDamagedAt, IsShortAt, IsDamaged, IsOpenStop, AreShut}
+use Rattle.ak_meta.specs.Contents.{Content}
+use Rattle.ak_node.specs.Opening.{IsDamagedByFound, IsFoundRecord, IsNodeOpenStop}
+use Rattle.ak_record.specs.Records.{frame_for}
+use Rattle.ak_record.specs.Stops.{IsNoStore, IsDamagedAt, IsShortAt, IsDamaged, AreShut}
 use Rattle.ak_top.specs.Ends.{IsMissing}
 
 not_open : (b : Bool) → b ≡ true → b ≡ false → ⊥
@@ -55,13 +58,22 @@ short_not file block (first ∷ disk) (inr (inl odd)) short = absurd (omega (ari
 short_not file block (first ∷ disk) (inr (inr (inl few))) short = small_not file block (first ∷ disk) short (omega (arith, short.blocks, few))
 short_not file block (first ∷ disk) (inr (inr (inr shut))) short = shut_not short.slot short.newest_frame (first ∷ disk) short.newest_is shut
 
-pub open_missing : (told : Type 0) → told → (old new : HostState) → IsNoStore old.files → (s : Stop) → IsOpenStop told old new s → IsMissing s
+-- there is no record either
+found_not : (number : ℕ) (c : Content) (disk : Files) → IsNoStore disk → IsFoundRecord number c disk → ⊥
+found_not number c [] none found = absurd (omega (arith, found.blocks))
+found_not number c (file ∷ disk) (inl none) found = absurd (omega arith)
+found_not number c (file ∷ disk) (inr (inl odd)) found = absurd (omega (arith, found.blocks))
+found_not number c (file ∷ disk) (inr (inr (inl few))) found = absurd (omega (arith, found.blocks, found.rules_are.limits_are.slot_least))
+found_not number c (file ∷ disk) (inr (inr (inr shut))) found = shut_not c.limits.slot (frame_for number c) (file ∷ disk) found.newest_is shut
+
+pub open_missing : (told : Type 0) → told → (old new : HostState) → IsNoStore old.files → (s : Stop) → IsNodeOpenStop told old new s → IsMissing s
 open_missing told t old new none NoStore why = inl refl
 open_missing told t old new none (Damaged file block) why = absurd (damage_not (why t))
   where
-    damage_not : IsDamaged file block old.files → ⊥
-    damage_not (inl at) = body_not block old.files none at.1
-    damage_not (inr short) = short_not file block old.files none short
+    damage_not : IsDamaged file block old.files ⊎ IsDamagedByFound old new file block → ⊥
+    damage_not (inl (inl at)) = body_not block old.files none at.1
+    damage_not (inl (inr short)) = short_not file block old.files none short
+    damage_not (inr leaf) = found_not leaf.0 leaf.1 old.files none leaf.2
 open_missing told t old new none Disk why = inr (inl refl)
 open_missing told t old new none Memory why = inr (inr refl)
 open_missing told t old new none Usage why = absurd why

@@ -7,13 +7,15 @@ use Rattle.ak_host.specs.Moments.{HostState, mark_now}
 use Rattle.ak_image.specs.Images.{IsSound, StandsFor}
 use Rattle.ak_meta.specs.Contents.{Content}
 use Rattle.ak_node.specs.Calls.{IsNodeStop, IsSoundStop}
-use Rattle.ak_node.specs.Opening.{IsFoundRecord}
+use Rattle.ak_node.specs.Opening.{IsDamagedByFound, IsFoundRecord, IsNodeOpenStop}
+use Rattle.ak_record.specs.Stops.{IsDamaged}
+use Rattle.ak_tree.proofs.Becoming.{becomes_same}
 use Rattle.ak_tree.specs.Stops.{IsWornBy, OnWorn}
 use Rattle.ak_world.specs.Views.{View, first_view}
 use Rattle.ak_world.specs.Worlds.{World as Store}
 use Rattle.ak_top.specs.Calls.{IsServeStop, HasServeStops}
 use Rattle.ak_top.specs.Commands.{IsRun, scratch_limits}
-use Rattle.ak_top.specs.Ends.{IsEnd, IsRunStop, IsScratchStop, IsServing}
+use Rattle.ak_top.specs.Ends.{IsDamagedIn, IsEnd, IsRunStop, IsScratchStop, IsServing}
 use Rattle.ak_top.specs.Told.{HasWorn}
 
 -- ---- Worn stores
@@ -76,6 +78,21 @@ served_run told number was old mid new Budget found disk port worn (inl why) = a
 served_run told number was old mid new NoStore found disk port worn (inl why) = absurd why.1
 served_run told number was old mid new Exists found disk port worn (inl why) = absurd why.1
 served_run told number was old mid new s found disk port worn (inr is) = subst (IsRunStop told old new) (sym is) tt
+
+-- why a run stops as it is opened
+pub open_run : (told : Type 0) (old new : HostState) (s : Stop) → IsNodeOpenStop told old new s → IsRunStop told old new s
+open_run told old new NoStore why = why
+open_run told old new (Damaged file block) why = λ t. damage (why t) where
+  damage : IsDamaged file block old.files ⊎ IsDamagedByFound old new file block → IsDamaged file block old.files ⊎ IsDamagedIn old new file block
+  damage (inl at) = inl at
+  damage (inr leaf) = inr (record { number = leaf.0; found = leaf.1; newest = leaf.2; now = leaf.1; becomes = becomes_same leaf.1; damaged = leaf.3 })
+open_run told old new Disk why = why
+open_run told old new Memory why = tt
+open_run told old new Usage why = absurd why
+open_run told old new Port why = absurd why
+open_run told old new Budget why = absurd why
+open_run told old new (Worn ordinal fill number) why = absurd why
+open_run told old new Exists why = absurd why
 
 -- why a run stops as it is served
 pub run_stops : (told : Type 0) (number : ℕ) (was : Content) (old mid new : HostState) (r : Result (Unit {0}) Stop) → (told → IsFoundRecord number was old.files) → old.disk_faults ≤ mid.disk_faults → old.port_faults ≤ mid.port_faults

@@ -10,7 +10,7 @@ use Rattle.ak_host.specs.Moments.{HostState, mark_now}
 use Rattle.ak_image.specs.Images.{IsSound, StandsFor}
 use Rattle.ak_meta.specs.Contents.{Content}
 use Rattle.ak_node.specs.Calls.{console_of}
-use Rattle.ak_node.specs.Damage.{IsDamagedLeaf}
+use Rattle.ak_repair.specs.Damage.{IsDamagedLeaf}
 use Rattle.ak_node.specs.Opening.{IsFoundRecord}
 use Rattle.ak_record.specs.Stops.{IsNoStore, IsTaken, IsDamaged}
 use Rattle.ak_tree.specs.Later.{Becomes}

@@ -1,5 +1,5 @@
 -- What an accepted point makes of a world and of a forest.
-use Rattle.std.proofs.Common.{◌≡◌, ◌≢◌, inl, inr, ℕ, suc, ◌<◌, ◌≤◌, ◌∙◌, List, [], ◌∷◌, ◌++◌, length, map, get_or, slice_set, Option, Some, None, Bool, false, refl, sym, ap, subst, arith, rules}
+use Rattle.std.proofs.Common.{◌≡◌, ◌≢◌, inl, inr, ℕ, zero, suc, ◌<◌, ◌≤◌, ◌∙◌, List, [], ◌∷◌, ◌++◌, length, map, get_or, slice_set, Option, Some, None, Bool, false, refl, sym, ap, subst, arith, rules}
 use Rattle.std.proofs.lemmas.Bool.{cases_eq, cases_lt, cond-true, cond-false, eq-eqb, ne_eqb, le-leb, lt-leb, and_left, and_right, and_from}
 use Rattle.std.proofs.lemmas.List.{get_or-set_same, get_or-set_other, length-map}
 use Rattle.std.specs.Prelude.{◌==◌, nat_le, if◌then◌else◌, IfSome, IsTrue, IsFalse}
@@ -11,17 +11,19 @@ use Rattle.ak_host.specs.Moments.{HostState, DiskPasses}
 use Rattle.ak_host.proofs.Passing.{disk_starts, disk_weaker}
 use Rattle.ak_leaf.proofs.Spellings.{spelling_most}
 use Rattle.ak_leaf.specs.Spelling.{start, leaf_size}
+use Rattle.ak_levels.specs.Pending.{Lists}
 use Rattle.ak_meta.specs.Contents.{Content}
+use Rattle.ak_meta.specs.Leaves.{leaves_at}
 use Rattle.ak_pool.specs.Frames.{Used, AreNumbered, AreFrames, IsUsed, IsLastFrame, used_frame, frames_of, leaf_of, series_of, with_leaf, moved_first}
 use Rattle.ak_pool.specs.declared.pool.Frame.{Frame}
 use Rattle.ak_pool.proofs.Theirs.{moved_leaf, lent_leaf, lent_own}
 use Rattle.ak_pool.proofs.Uses.{unused}
-use Rattle.ak_tree.specs.Standing.{Trees, AreTrees, Keeps, Holds, IsOpenLeaf, ArePooled, leaf_in, last_of_series, last_behind, last_known}
+use Rattle.ak_tree.specs.Standing.{Trees, AreTrees, Keeps, Holds, IsOpenLeaf, ArePooled, OpensLevel, IsClosedFor, leaf_in, last_of_series, last_behind, last_known, base_of, bases_of}
 use Rattle.ak_tree.specs.Stops.{IsWornBy}
 use Rattle.ak_tree.specs.Storing.{IsStored, LeavesView}
 use Rattle.ak_volumes.specs.Ordinals.{newest, file_of}
-use Rattle.ak_world.specs.Leaves.{Leaf}
-use Rattle.ak_world.specs.Steps.{written_in, is_empty, closed, unless_worn, made_fit, oldest, made_room, added, in_time, accepted}
+use Rattle.ak_world.specs.Leaves.{Leaf, Series, with_point}
+use Rattle.ak_world.specs.Steps.{changed, written_in, is_empty, closed, unless_worn, made_fit, oldest, made_room, added, in_time, accepted}
 use Rattle.ak_world.specs.Valid.{Goes}
 use Rattle.ak_world.specs.Worlds.{World, limits_of, content_now, kept_now}
 use Rattle.ak_world.proofs.ContentsOfNames.{content_written, kept_written}
@@ -95,6 +97,27 @@ last_oldest count (u ∷ v ∷ us) frame are last =
     let rest : IsOldest (v ∷ us) frame = last_oldest count (v ∷ us) frame are.2 last in
     let other : u.frame ≢ frame = λ e. unused u.frame (v ∷ us) are.1 (subst (IsUsed (v ∷ us)) (sym e) rest.used) in
     record { used = inr rest.used; series = cond-false (u.frame == frame) u.series (series_of (v ∷ us) frame) (ne_eqb u.frame frame other) ∙ rest.series }
+
+-- the used frame in the last place
+pub record IsLastUsed (us : List Used) (frame : ℕ) : Type 0 where
+  pub front : List Used
+  pub last : Used
+  pub is : us ≡ front ++ last ∷ []
+  pub series : series_of us frame ≡ last.series
+
+pub last_used : (count : ℕ) (us : List Used) (frame : ℕ) → AreNumbered count us → IsLastFrame us frame → IsLastUsed us frame
+last_used count [] frame are last = absurd last
+last_used count (u ∷ []) frame are last = record { front = []; last = u; is = refl; series = cond-true (u.frame == frame) u.series 0 (eq-eqb u.frame frame last) }
+last_used count (u ∷ v ∷ us) frame are last =
+    let rest : IsLastUsed (v ∷ us) frame = last_used count (v ∷ us) frame are.2 last in
+    let used : IsUsed (v ∷ us) frame = (last_oldest count (v ∷ us) frame are.2 last).used in
+    let other : u.frame ≢ frame = λ e. unused u.frame (v ∷ us) are.1 (subst (IsUsed (v ∷ us)) (sym e) used) in
+    record {
+      front = u ∷ rest.front;
+      last = rest.last;
+      is = ap (λ (l : List Used). u ∷ l) rest.is;
+      series = cond-false (u.frame == frame) u.series (series_of (v ∷ us) frame) (ne_eqb u.frame frame other) ∙ rest.series;
+    }
 
 -- a used frame is that of a series that has an open leaf
 pub record IsOpened (f : Trees) (n : ℕ) : Type 0 where
@@ -172,12 +195,19 @@ started_last f n m most frame p within below was =
 
 -- ---- The forest
 
+bases_written : (ss : List Series) (n : ℕ) (p : Point) → map base_of (changed ss n (λ s. with_point s p)) ≡ map base_of ss
+bases_written [] n p = refl
+bases_written (s ∷ ss) zero p = refl
+bases_written (s ∷ ss) (suc n) p = ap (λ (l : List ℕ). base_of s ∷ l) (bases_written ss n p)
+
 -- a point changes nothing that is stored
-pub added_holds : (w : World) (f new : Trees) (n : ℕ) (p : Point) (host : HostState) → Holds w f host → Keeps (added n p w) new → Holds (added n p w) new host
-added_holds w f new n p host holds keeps = record {
+pub added_holds : (w : World) (f new : Trees) (n : ℕ) (p : Point) (host : HostState) → Holds w f host → new.levels ≡ f.levels → Keeps (added n p w) new → Holds (added n p w) new host
+added_holds w f new n p host holds same keeps = record {
   keeps = keeps;
-  stored = subst (λ (c : Content). IsStored w.last c (kept_now (added n p w)) (file_of w.ordinals (newest w.ordinals)) host) (sym (content_written w n p))
-      (subst (λ (k : List (List Leaf)). IsStored w.last (content_now w) k (file_of w.ordinals (newest w.ordinals)) host) (sym (kept_written w n p)) holds.stored);
+  stored = subst (λ (bases : List ℕ). IsStored w.last (content_now (added n p w)) (kept_now (added n p w)) bases new.levels (file_of w.ordinals (newest w.ordinals)) host) (sym (bases_written w.series n p))
+      (subst (λ (c : Content). IsStored w.last c (kept_now (added n p w)) (bases_of w) new.levels (file_of w.ordinals (newest w.ordinals)) host) (sym (content_written w n p))
+      (subst (λ (k : List (List Leaf)). IsStored w.last (content_now w) k (bases_of w) new.levels (file_of w.ordinals (newest w.ordinals)) host) (sym (kept_written w n p))
+      (subst (λ (levels : List Lists). IsStored w.last (content_now w) (kept_now w) (bases_of w) levels (file_of w.ordinals (newest w.ordinals)) host) (sym same) holds.stored)));
 }
 
 -- as many are used as have an open leaf
@@ -238,7 +268,7 @@ pub started_holds : (w : World) (f new : Trees) (n : ℕ) (p : Point) (host : Ho
     → (frame : Frame) × (new ≡ record f { pool = frames_of f.pool.count (used_frame frame.0 n (p ∷ []) ∷ f.pool.used); frames = slice_set f.frames n (Some frame) })
     → Holds (added n p w) new host
 started_holds w f new n p host are holds within none point below started =
-    added_holds w f new n p host holds
+    added_holds w f new n p host holds (ap (λ (t : Trees). t.levels) started.1)
     (subst (Keeps (added n p w)) (sym started.1) (started_keeps w f n p started.0 are holds.keeps within none point below))
 
 pub started_below : (f new : Trees) (n m most : ℕ) (p : Point) → AreTrees f → n < length f.meta.series → p.ts ≤ most → Below most (last_known f m)
@@ -246,6 +276,44 @@ pub started_below : (f new : Trees) (n m most : ℕ) (p : Point) → AreTrees f 
     → Below most (last_known new m)
 started_below f new n m most p are within below was started =
     subst (λ (t : Trees). Below most (last_known t m)) (sym started.1) (started_last f n m most started.0 p (omega (arith, are.pooled.number, within)) below was)
+
+-- ---- Memory
+
+-- the open leaf that was written least recently opens a level
+abbrev pub OpensOldest : Trees → Type 0
+OpensOldest f = (front : List Used) × (last : Used) × (f.pool.used ≡ front ++ last ∷ []) × OpensLevel (leaves_at f.meta.series last.series)
+
+-- a leaf that is closed before the point is added opens a level
+abbrev pub OpensFor : Trees → ℕ → Point → Type 0
+OpensFor f n p = (m : ℕ) × IsClosedFor f n p m × OpensLevel (leaves_at f.meta.series m)
+
+pub oldest_opens : (f seen : Trees) (n : ℕ) (p : Point) → seen ≡ f → get_or f.frames n None ≡ None → f.pool.count ≤ length f.pool.used → OpensOldest seen → OpensFor f n p
+oldest_opens f seen n p same none full opens =
+    let here : OpensOldest f = subst OpensOldest same opens in
+    (here.1.series, inr (none, full, here.0, here.1, here.2, refl), here.3)
+
+-- the leaf of the series is full
+pub own_opens : (f seen : Trees) (n : ℕ) (p : Point) (frame : Frame) → seen ≡ f → get_or f.frames n None ≡ Some frame → 4032 < leaf_size (leaf_of f.pool.used frame.0 ++ p ∷ [])
+    → OpensLevel (leaves_at seen.meta.series n) → OpensFor f n p
+own_opens f seen n p frame same framed full opens =
+    (n, inl (frame, framed, full, refl), subst (λ (t : Trees). OpensLevel (leaves_at t.meta.series n)) same opens)
+
+-- behind a leaf that was closed no other one is
+pub closed_for_none : (f new : Trees) (n m : ℕ) (p : Point) → AreTrees f → AreTrees new → new.meta.limits ≡ f.meta.limits → get_or new.frames n None ≡ None
+    → suc (length new.pool.used) ≡ length f.pool.used → IsClosedFor new n p m → ⊥
+closed_for_none f new n m p are is limits none fewer (inl own) = not_both own.0 (sym own.1 ∙ none) where
+  not_both : (g : Frame) → Some g ≢ None
+  not_both g e = cc
+closed_for_none f new n m p are is limits none fewer (inr oldest) = absurd (omega (arith, one_free f new are is limits fewer, oldest.1))
+
+-- the same of the forest of which its leaf was closed
+pub closed_leaf_none : (f seen new closing : Trees) (n m : ℕ) (p : Point) → AreTrees f → AreTrees new → seen ≡ f → new ≡ closing → n < length f.meta.series → closing.meta.limits ≡ seen.meta.limits
+    → closing.frames ≡ slice_set seen.frames n None → suc (length closing.pool.used) ≡ length seen.pool.used → IsClosedFor new n p m → ⊥
+closed_leaf_none f seen new closing n m p are is same now within limits frames fewer closes =
+    let set : new.frames ≡ slice_set f.frames n None = ap (λ (t : Trees). t.frames) now ∙ frames ∙ ap (λ (t : Trees). slice_set t.frames n None) same in
+    let none : get_or new.frames n None ≡ None = ap (λ (l : List (Option Frame)). get_or l n None) set ∙ get_or-set_same f.frames n None None (omega (arith, are.pooled.number, within)) in
+    let less : suc (length new.pool.used) ≡ length f.pool.used = ap (λ (t : Trees). suc (length t.pool.used)) now ∙ fewer ∙ ap (λ (t : Trees). length t.pool.used) same in
+    closed_for_none f new n m p are is (ap (λ (t : Trees). t.meta.limits) now ∙ limits ∙ ap (λ (t : Trees). t.meta.limits) same) none less closes
 
 -- ---- Accepted points
 
@@ -263,7 +331,7 @@ fit_accepted w f n p frame are keeps framed fits =
 pub extended_holds : (w : World) (f new : Trees) (n : ℕ) (p : Point) (frame : Frame) (host : HostState) → AreTrees f → Holds w f host → n < length f.meta.series → get_or f.frames n None ≡ Some frame → IsPoint p → IfSome (last_known f n) (λ last. last ≤ p.ts)
     → new ≡ record f { pool = frames_of f.pool.count (moved_first (with_leaf f.pool.used frame.0 (leaf_of f.pool.used frame.0 ++ p ∷ [])) frame.0) } → Holds (added n p w) new host
 extended_holds w f new n p frame host are holds within framed point below put =
-    added_holds w f new n p host holds (subst (Keeps (added n p w)) (sym put) (extended_keeps w f n p frame are holds.keeps within framed point below))
+    added_holds w f new n p host holds (ap (λ (t : Trees). t.levels) put) (subst (Keeps (added n p w)) (sym put) (extended_keeps w f n p frame are holds.keeps within framed point below))
 
 -- the world once the leaf has room, and what is left to do
 pub record IsFitted (w : World) (n : ℕ) (p : Point) (f : Trees) (start host : HostState) : Type 0 where
@@ -284,7 +352,7 @@ none_fitted w f n p host holds within none = record {
 }
 
 -- it was full
-full_rest : (w : World) (f : Trees) (n : ℕ) (p : Point) (frame : Frame) → AreTrees f → Keeps w f → get_or f.frames n None ≡ Some frame → 4032 < leaf_size (leaf_of f.pool.used frame.0 ++ p ∷ []) → accepted w n p ≡ unless_worn (begun (closed w n) n p) in_time
+pub full_rest : (w : World) (f : Trees) (n : ℕ) (p : Point) (frame : Frame) → AreTrees f → Keeps w f → get_or f.frames n None ≡ Some frame → 4032 < leaf_size (leaf_of f.pool.used frame.0 ++ p ∷ []) → accepted w n p ≡ unless_worn (begun (closed w n) n p) in_time
 full_rest w f n p frame are keeps framed full =
     let leaf : leaf_of f.pool.used frame.0 ≡ written_in w.series n = leaf_is w f n (length f.meta.series) frame are.pooled keeps framed in
     let large : 4032 < leaf_size (written_in w.series n ++ p ∷ []) = subst (λ (ps : List Point). 4032 < leaf_size (ps ++ p ∷ [])) leaf full in

@@ -8,6 +8,8 @@ use Rattle.ak_base.specs.declared.point.Point.{Point}
 use Rattle.ak_checkpoint.specs.Saving.{Saving}
 use Rattle.ak_image.specs.Laid.{spot}
 use Rattle.ak_levels.specs.Carries.{carry_of}
+use Rattle.ak_levels.specs.Entries.{AreLawful}
+use Rattle.ak_levels.specs.Pending.{Lists}
 use Rattle.ak_meta.proofs.Closing.{leaves_cons, sizes_here, fill_most}
 use Rattle.ak_meta.proofs.Fronts.{each_taken}
 use Rattle.ak_meta.proofs.Lawful.{close_lawful}
@@ -21,6 +23,7 @@ use Rattle.ak_pool.specs.declared.pool.Frame.{Frame}
 use Rattle.ak_tree.specs.Standing.{Trees, trees, AreTrees, ArePooled, Keeps, leaf_in, last_of_series, last_behind, last_known}
 use Rattle.ak_tree.proofs.Framing.{as_many, written_other, written_is, behind_some, frames_differ, leaf_kept}
 use Rattle.ak_tree.proofs.Pooling.{same_or_other, IsFrameOf, frame_of, framed_within, leaf_some, series_without, others_of, pooled_closed}
+use Rattle.ak_tree.proofs.Waiting.{lawful_entered}
 use Rattle.ak_volumes.specs.Ordinals.{Ordinals, AreOrdinals, newest, newest_fill, address, ordinal_of, index_of, filled}
 use Rattle.ak_world.proofs.ContentsOfLeaves.{after, after_is, content_closed, leaves_known}
 use Rattle.ak_world.proofs.Valid.{length_changed, enter_valid}
@@ -86,12 +89,13 @@ long_entered (s ∷ all) (suc n) last a = ap suc (long_entered all n last a)
 -- ---- The forest
 
 -- the forest after the open leaf of a series is entered
-abbrev pub with_entered : Trees → ℕ → Frame → ℕ → Trees
-with_entered f n g others = trees (meta_entered f.meta n (leaf_of f.pool.used g.0) others) (frames_of f.pool.count (without f.pool.used g.0)) (slice_set f.frames n None) f.check (f.since + 1)
+abbrev pub with_entered : Trees → ℕ → Frame → ℕ → List Lists → Trees
+with_entered f n g others levels = trees (meta_entered f.meta n (leaf_of f.pool.used g.0) others) (frames_of f.pool.count (without f.pool.used g.0)) (slice_set f.frames n None) levels f.check (f.since + 1)
 
-pub trees_entered : (f : Trees) (n : ℕ) (g : Frame) (others : ℕ) → AreTrees f → get_or f.frames n None ≡ Some g → others ≡ carry_of (leaves_at f.meta.series n)
-    → newest_fill f.meta.ordinals + (1 + others) ≤ f.meta.ordinals.blocks → last_ts_from 0 (leaf_of f.pool.used g.0) < 2 ^ 64 → AreFrames (frames_of f.pool.count (without f.pool.used g.0)) → AreTrees (with_entered f n g others)
-trees_entered f n g others are is top room small valid =
+pub trees_entered : (f : Trees) (n : ℕ) (g : Frame) (others : ℕ) (v : Lists) → AreTrees f → get_or f.frames n None ≡ Some g → others ≡ carry_of (leaves_at f.meta.series n)
+    → newest_fill f.meta.ordinals + (1 + others) ≤ f.meta.ordinals.blocks → last_ts_from 0 (leaf_of f.pool.used g.0) < 2 ^ 64 → AreFrames (frames_of f.pool.count (without f.pool.used g.0))
+    → AreLawful (leaves_at f.meta.series n + 1) v → AreTrees (with_entered f n g others (slice_set f.levels n v))
+trees_entered f n g others v are is top room small valid waits =
     let k = length f.meta.series in
     let last = last_ts_from 0 (leaf_of f.pool.used g.0) in
     let a = spot f.meta.ordinals in
@@ -103,6 +107,7 @@ trees_entered f n g others are is top room small valid =
       count = are.count;
       pooled = subst (ArePooled (frames_of f.pool.count (without f.pool.used g.0)) (slice_set f.frames n None)) (sym (long_entered f.meta.series n last a))
           (pooled_closed f.pool.count f.pool.used f.frames k n g are.pooled is valid);
+      lawful = lawful_entered f.meta.series f.levels n last a v are.lawful waits;
       since = omega (arith, leaves_more f.meta.series n last a within, are.since);
     }
 
@@ -121,9 +126,9 @@ content_entered w c n others ps is fresh within some same top leaf =
     ∙ ap₂ (λ (qs : List Point) (k : ℕ). meta_entered (content_now w) n qs k) (sym leaf) top
     ∙ sym (content_closed w n is fresh within some)
 
-keeps_after : (w : World) (f : Trees) (n blocks : ℕ) (g : Frame) (meta : Content) → AreTrees f → Keeps w f → get_or f.frames n None ≡ Some g → meta ≡ content_now (after w n blocks) → IsWorld (after w n blocks)
-    → Keeps (after w n blocks) (trees meta (frames_of f.pool.count (without f.pool.used g.0)) (slice_set f.frames n None) f.check (f.since + 1))
-keeps_after w f n blocks g meta are keeps is same valid =
+keeps_after : (w : World) (f : Trees) (n blocks : ℕ) (g : Frame) (meta : Content) (levels : List Lists) → AreTrees f → Keeps w f → get_or f.frames n None ≡ Some g → meta ≡ content_now (after w n blocks) → IsWorld (after w n blocks)
+    → Keeps (after w n blocks) (trees meta (frames_of f.pool.count (without f.pool.used g.0)) (slice_set f.frames n None) levels f.check (f.since + 1))
+keeps_after w f n blocks g meta levels are keeps is same valid =
     let us : List Used = f.pool.used in
     let k = length f.meta.series in
     let a = address (newest w.ordinals) (newest_fill w.ordinals) in
@@ -172,9 +177,9 @@ may_enter w f n g others are keeps is top room =
       room = subst (λ (m : ℕ). newest_fill w.ordinals + m ≤ w.ordinals.blocks) group (subst (λ (c : Content). newest_fill c.ordinals + (1 + others) ≤ c.ordinals.blocks) keeps.content_is room);
     }
 
-pub keeps_entered : (w : World) (f : Trees) (n : ℕ) (g : Frame) (others : ℕ) → AreTrees f → Keeps w f → get_or f.frames n None ≡ Some g → others ≡ carry_of (leaves_at f.meta.series n)
-    → newest_fill f.meta.ordinals + (1 + others) ≤ f.meta.ordinals.blocks → Keeps (entered w n (group_of w n)) (with_entered f n g others)
-keeps_entered w f n g others are keeps is top room =
+pub keeps_entered : (w : World) (f : Trees) (n : ℕ) (g : Frame) (others : ℕ) (levels : List Lists) → AreTrees f → Keeps w f → get_or f.frames n None ≡ Some g → others ≡ carry_of (leaves_at f.meta.series n)
+    → newest_fill f.meta.ordinals + (1 + others) ≤ f.meta.ordinals.blocks → Keeps (entered w n (group_of w n)) (with_entered f n g others levels)
+keeps_entered w f n g others levels are keeps is top room =
     let k = length f.meta.series in
     let within : n < k = framed_within f.pool f.frames k n g are.pooled is in
     let may : MayEnter w f n others = may_enter w f n g others are keeps is top room in
@@ -183,14 +188,15 @@ keeps_entered w f n g others are keeps is top room =
     let count : others ≡ carry_of (leaves_in w.series n) = omega (arith, may.group) in
     let same : meta_entered f.meta n (leaf_of f.pool.used g.0) others ≡ content_now (entered w n (group_of w n)) =
     content_entered w f.meta n others (leaf_of f.pool.used g.0) keeps.valid keeps.not_worn may.within may.some keeps.content_is count leaf in
-    subst (λ (v : World). Keeps v (with_entered f n g others)) (sym all)
-    (keeps_after w f n (group_of w n) g (meta_entered f.meta n (leaf_of f.pool.used g.0) others) are keeps is (same ∙ ap content_now all)
+    subst (λ (v : World). Keeps v (with_entered f n g others levels)) (sym all)
+    (keeps_after w f n (group_of w n) g (meta_entered f.meta n (leaf_of f.pool.used g.0) others) levels are keeps is (same ∙ ap content_now all)
     (subst IsWorld all (enter_valid w n (group_of w n) keeps.valid may.within may.some may.room)))
 
 -- the forest by its parts
-pub trees_are : (f : Trees) (meta : Content) (pool : Frames) (frames : List (Option Frame)) (check : Saving) (since : ℕ) → f.meta ≡ meta → f.pool ≡ pool → f.frames ≡ frames → f.check ≡ check → f.since ≡ since → f ≡ trees meta pool frames check since
-trees_are f meta pool frames check since a b c d e =
-    let same : trees f.meta f.pool f.frames f.check f.since ≡ trees meta pool frames check since = cc in same
+pub trees_are : (f : Trees) (meta : Content) (pool : Frames) (frames : List (Option Frame)) (levels : List Lists) (check : Saving) (since : ℕ) → f.meta ≡ meta → f.pool ≡ pool → f.frames ≡ frames → f.levels ≡ levels → f.check ≡ check
+    → f.since ≡ since → f ≡ trees meta pool frames levels check since
+trees_are f meta pool frames levels check since a b c v d e =
+    let same : trees f.meta f.pool f.frames f.levels f.check f.since ≡ trees meta pool frames levels check since = cc in same
 
 -- ---- The last timestamp
 
@@ -207,9 +213,9 @@ last_others (s ∷ all) (suc n) zero last a other = refl
 last_others (s ∷ all) (suc n) (suc m) last a other = last_others all n m last a (λ e. other (ap suc e))
 
 -- each series keeps its last timestamp
-pub last_entered : (f : Trees) (n m : ℕ) (g : Frame) (others : ℕ) → AreTrees f → get_or f.frames n None ≡ Some g → last_known (with_entered f n g others) m ≡ last_known f m
-last_entered f n m g others are is = elim (same_or_other m n) [
-  | inl e ↦ ap (last_known (with_entered f n g others)) e ∙ here ∙ ap (last_known f) (sym e)
+pub last_entered : (f : Trees) (n m : ℕ) (g : Frame) (others : ℕ) (levels : List Lists) → AreTrees f → get_or f.frames n None ≡ Some g → last_known (with_entered f n g others levels) m ≡ last_known f m
+last_entered f n m g others levels are is = elim (same_or_other m n) [
+  | inl e ↦ ap (last_known (with_entered f n g others levels)) e ∙ here ∙ ap (last_known f) (sym e)
   | inr o ↦
       (let new : Frames = frames_of f.pool.count (without f.pool.used g.0) in
       ap (λ (frame : Option Frame). last_behind (last_of_series (meta_entered f.meta n ps others).series m) (leaf_in new frame)) (get_or-set_other f.frames n m None None o)
@@ -231,7 +237,7 @@ last_entered f n m g others are is = elim (same_or_other m n) [
   within : n < k
   within = framed_within f.pool f.frames k n g are.pooled is
 
-  here : last_known (with_entered f n g others) n ≡ last_known f n
+  here : last_known (with_entered f n g others levels) n ≡ last_known f n
   here =
       let new : Frames = frames_of f.pool.count (without f.pool.used g.0) in
       ap (λ (frame : Option Frame). last_behind (last_of_series (meta_entered f.meta n ps others).series n) (leaf_in new frame)) (get_or-set_same f.frames n None None (omega (arith, within, are.pooled.number)))

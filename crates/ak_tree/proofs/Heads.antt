@@ -4,7 +4,7 @@ use Rattle.std.specs.List.{AllByRecursion}
 use Rattle.ak_base.specs.declared.point.Addr.{Addr}
 use Rattle.ak_base.specs.declared.point.Point.{Point}
 use Rattle.ak_bytes.specs.declared.head.Head.{Head}
-use Rattle.ak_image.specs.Laid.{rescue_in}
+use Rattle.ak_image.specs.Laid.{rescue_in, series_in}
 use Rattle.ak_leaf.specs.Leaf.{IsHeadOf}
 use Rattle.ak_leaf.specs.Spelling.{leaf_size}
 use Rattle.ak_meta.specs.Contents.{IsSeries, rescue_at}
@@ -20,6 +20,12 @@ pub rescue_here : (all : List SeriesMeta) (n : ℕ) (s : SeriesMeta) → n < len
 rescue_here [] n s within is = absurd (omega arith)
 rescue_here (t ∷ all) zero s within is = ap (λ (r : SeriesMeta). rescue_at r.rescue 0) (sym is)
 rescue_here (t ∷ all) (suc n) s within is = rescue_here all n s (omega arith) is
+
+-- the series of a number
+pub series_here : (all : List SeriesMeta) (n : ℕ) (s : SeriesMeta) → n < length all → s ≡ get_or all n s → s ≡ series_in all n
+series_here [] n s within is = absurd (omega arith)
+series_here (t ∷ all) zero s within is = is
+series_here (t ∷ all) (suc n) s within is = series_here all n s (omega arith) is
 
 -- the first rescue address is below 2 ^ 64
 pub rescue_small : (rescue : List Addr) → AllByRecursion (λ (a : Addr). a.0 < 2 ^ 64) rescue → (get_or rescue 0 (record { 0 = 0 })).0 < 2 ^ 64

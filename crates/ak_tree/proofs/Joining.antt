@@ -121,7 +121,7 @@ stays_one : (b : Bool) (u w : World) → u ≡ w → (if b then w else u) ≡ w
 stays_one true u w is = refl
 stays_one false u w is = is
 
-from_stays : (count n : ℕ) (w : World) → w.worn ≡ true → closed_from count n w ≡ w
+pub from_stays : (count n : ℕ) (w : World) → w.worn ≡ true → closed_from count n w ≡ w
 from_stays zero n w worn = refl
 from_stays (suc count) n w worn =
     ap (closed_from count (suc n)) (stays_one (is_empty (written_in w.series n)) (unless_worn w (λ v. closed v n)) w (unless_stays w (λ v. closed v n) worn)) ∙ from_stays count (suc n) w worn
@@ -144,7 +144,7 @@ module _ (w : World) (n : ℕ) (f : Trees) (host : HostState) (way : IsOnWay w n
       let e : suc n ≡ n + 1 = omega arith in
       ap (λ (k : ℕ). closed_from (length w.series - (n + 1)) k v) e
 
-  closed_rest : n < length w.series → written_in way.now.series n ≢ [] → closed_from (length w.series - (n + 1)) (n + 1) (closed way.now n) ≡ closed_from (length w.series) 0 w
+  pub closed_rest : n < length w.series → written_in way.now.series n ≢ [] → closed_from (length w.series - (n + 1)) (n + 1) (closed way.now n) ≡ closed_from (length w.series) 0 w
   closed_rest within some =
       sym (next_is (closed way.now n)) ∙ sym (from_some way.now (length w.series - (n + 1)) n way.holds.keeps.not_worn some) ∙ sym (step_is way.now within) ∙ way.rest
 

@@ -4,12 +4,16 @@ pub mod Becoming
 pub mod Closed
 pub mod Entering
 pub mod Framing
+pub mod Groups
 pub mod Heads
 pub mod Joining
 pub mod Outside
 pub mod Placed
+pub mod Planted
 pub mod Pooling
 pub mod Saved
 pub mod Stored
 pub mod Telling
+pub mod Waiting
 pub mod Wanted
+pub mod Worn

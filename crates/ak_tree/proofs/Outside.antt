@@ -1,20 +1,27 @@
 -- Blocks of one file that are written in a row.
-use Rattle.std.proofs.Common.{◌≡◌, ◌≢◌, inl, inr, ℕ, zero, suc, ◌+◌, ◌<◌, ◌≤◌, List, [], length, map, replicate, get_or, refl, sym, ◌∙◌, ap, subst, arith}
+use Rattle.std.proofs.Common.{◌≡◌, ◌≢◌, inl, inr, ℕ, suc, ◌+◌, ◌/◌, ◌^◌, ◌<◌, ◌≤◌, List, [], ◌∷◌, ◌++◌, length, map, get_or, refl, sym, ◌∙◌, ap, ap₂, subst, arith, pow-suc}
+use Rattle.std.specs.List.{AllByRecursion}
+use Rattle.std.proofs.Math.Nat.{div-div-eq-div-mul}
 use Rattle.std.proofs.lemmas.Bool.{cases_lt}
 use Rattle.std.proofs.Math.ListN.{get_or-map}
 use Rattle.std.proofs.lemmas.List.{length-set, length-map, get_or-set_same, get_or-set_other}
 use Rattle.std.specs.Prelude.{slice_index}
 use Rattle.ak_host.specs.Calls.{Follows}
-use Rattle.ak_host.specs.Files.{Files, MayBeTorn, file_at, block_at, with_block, zero_block}
+use Rattle.ak_host.specs.Files.{Files, MayBeTorn, file_at, block_at, with_block}
 use Rattle.ak_host.specs.Moments.{HostState, DiskPasses, LeavesNow}
 use Rattle.ak_host.proofs.Items.{file_at-with_block_same, file_at-with_block_other}
 use Rattle.ak_host.proofs.Passing.{disk_goes_on, disk_now}
-use Rattle.ak_tree.specs.Writing.{IsOutside, AreZeroed, IsGroup, LeavesOutside}
-
--- the block that the code writes
-pub zeros_are : replicate 4096 0 ≡ zero_block
-unfolding zero_block
-zeros_are = refl
+use Rattle.ak_bytes.specs.Head.{IsHead}
+use Rattle.ak_bytes.specs.declared.head.Head.{Head}
+use Rattle.ak_inner.specs.Nodes.{SpellsInner}
+use Rattle.ak_inner.specs.References.{AreRefs}
+use Rattle.ak_inner.specs.declared.reference.Ref.{Ref}
+use Rattle.ak_levels.specs.Closes.{node_ref, raised, taken, emptied}
+use Rattle.ak_levels.specs.Entries.{IsTally, AreLawful}
+use Rattle.ak_levels.specs.Pending.{Lists, HasRoom, pending_at, with_pending}
+use Rattle.ak_levels.proofs.Closed.{emptied_room, lawful_emptied, raised_addr, taken_is}
+use Rattle.ak_tree.specs.declared.writing.Group.{Group}
+use Rattle.ak_tree.specs.Writing.{IsOutside, AreNodeBlocks, IsGroup, LeavesOutside, head_above, node_head}
 
 -- how long a file is, by the sizes that are told
 pub long_as_told : (files : Files) (sizes : List ℕ) (file : ℕ) → map length files ≡ sizes → length (file_at files file) ≡ slice_index sizes file
@@ -70,30 +77,61 @@ block_set file at old new block within is =
     let there : file_at new file ≡ file_at (with_block old file at block) file = ap (λ (files : Files). file_at files file) is in
     ap (λ (l : List (List ℕ)). get_or l at []) (there ∙ file_at-with_block_same old file at block) ∙ get_or-set_same (file_at old file) at block [] within
 
--- ---- Zeros
+-- ---- Inner nodes
 
--- so many blocks from an index on, taken one by one
-abbrev pub EachZero : Files → ℕ → ℕ → ℕ → Type 0
-EachZero files file index count = (k : ℕ) → k < count → block_at files file (index + k) ≡ zero_block
+all_push : (P : Ref → Type 0) (rs : List Ref) (r : Ref) → AllByRecursion P rs → P r → AllByRecursion P (rs ++ r ∷ [])
+all_push P [] r all here = (here, tt)
+all_push P (q ∷ rs) r all here = (all.0, all_push P rs r all.1 here)
 
-pub zeros_by : (files : Files) (file count index : ℕ) → EachZero files file index count → AreZeroed files file count index
-zeros_by files file zero index each = tt
-zeros_by files file (suc count) index each =
-    let here : index + 0 ≡ index = omega arith in (
-      subst (λ (a : ℕ). block_at files file a ≡ zero_block) here (each 0 (omega arith)),
-      zeros_by files file count (index + 1) (λ k within.
-          let next : index + suc k ≡ index + 1 + k = omega arith in
-          subst (λ (a : ℕ). block_at files file a ≡ zero_block) next (each (suc k) (omega (arith, within)))),
-    )
+-- what goes into a node is a tally each
+pub tallies_at : (v w : Lists) (m k : ℕ) (above : Ref) → w ≡ emptied v k → AreLawful m v → k ≤ 10 → IsTally k above → AllByRecursion (IsTally k) (pending_at w k ++ above ∷ [])
+tallies_at v w m k above is are top tally = subst (λ (u : Lists). AllByRecursion (IsTally k) (pending_at u k ++ above ∷ [])) (sym is)
+    (all_push (IsTally k) (pending_at (emptied v k) k) above ((lawful_emptied v m k are).each k top) tally)
 
--- one block more
-pub zero_more : (file index count : ℕ) (old new : Files) (block : List ℕ) → index + count < length (file_at old file) → block ≡ zero_block → new ≡ with_block old file (index + count) block
-    → EachZero old file index count → EachZero new file index (count + 1)
-zero_more file index count old new block within zeros is so_far k below = elim (cases_lt k count) [
-  | inl before ↦ (outside_set file (index + count) 1 (index + count) old new block (omega arith) (omega arith) is).below (index + k) (omega (arith, before)) ∙ so_far k before
+pub room_at : (v w : Lists) (k : ℕ) → w ≡ emptied v k → HasRoom v k → HasRoom w k
+room_at v w k is room = subst (λ (u : Lists). HasRoom u k) (sym is) (emptied_room v k k (omega arith) room)
+
+pub lawful_at : (v w : Lists) (m k : ℕ) → w ≡ emptied v k → AreLawful m v → AreLawful m w
+lawful_at v w m k is are = subst (AreLawful m) (sym is) (lawful_emptied v m k are)
+
+-- the next level is emptied
+pub emptied_next : (v w u : Lists) (k : ℕ) → w ≡ emptied v k → u ≡ with_pending w k [] → u ≡ emptied v (suc k)
+emptied_next v w u k is next = next ∙ ap (λ (x : Lists). with_pending x k []) is
+
+-- the reference to the node goes a level up
+pub raised_next : (v w : Lists) (leaf above r : Ref) (k : ℕ) → w ≡ emptied v k → above ≡ raised v leaf k → r ≡ node_ref (above.addr.0 + 1) (pending_at w k ++ above ∷ []) → r ≡ raised v leaf (suc k)
+raised_next v w leaf above r k below here is =
+    is ∙ ap₂ node_ref (ap (λ (x : Ref). x.addr.0 + 1) here) (taken_is v w leaf above k below here)
+
+pub number_next : (m n k : ℕ) → n ≡ m / 32 ^ k → n / 32 ≡ m / 32 ^ suc k
+number_next m n k is = ap (λ (x : ℕ). x / 32) is ∙ div-div-eq-div-mul m (32 ^ k) 32 ∙ ap (λ (x : ℕ). m / x) (sym (pow-suc 32 k))
+
+pub above_addr : (v : Lists) (leaf above : Ref) (k : ℕ) → above ≡ raised v leaf k → above.addr.0 ≡ leaf.addr.0 + k
+above_addr v leaf above k is = ap (λ (x : Ref). x.addr.0) is ∙ raised_addr v leaf k
+
+-- one node more
+pub node_more : (g : Group) (v w : Lists) (file index k number : ℕ) (above r : Ref) (block : List ℕ) (old new : Files) → index + k < length (file_at old file)
+    → w ≡ emptied v k → above ≡ raised v g.leaf k → number ≡ g.number / 32 ^ suc k → r ≡ raised v g.leaf (suc k)
+    → (IsHead (head_above g k number r.addr.0 (pending_at w k ++ above ∷ [])) → AreRefs (suc k) (pending_at w k ++ above ∷ [])
+    → SpellsInner block (head_above g k number r.addr.0 (pending_at w k ++ above ∷ [])) (pending_at w k ++ above ∷ []))
+    → new ≡ with_block old file (index + k) block → AreNodeBlocks g v k file index old → AreNodeBlocks g v (k + 1) file index new
+node_more g v w file index k number above r block old new within below here number_is raised_is spells is so_far j before head refs = elim (cases_lt j k) [
+  | inl less ↦
+      let same : block_at new file (index + j) ≡ block_at old file (index + j) = (outside_set file (index + k) 1 (index + k) old new block (omega arith) (omega arith) is).below (index + j) (omega (arith, less)) in
+      subst (λ (b : List ℕ). SpellsInner b (node_head g v j) (taken v g.leaf j)) (sym same) (so_far j less head refs)
   | inr past ↦
-      let at : index + count ≡ index + k = omega (arith, past, below) in
-      subst (λ (a : ℕ). block_at new file a ≡ zero_block) at (block_set file (index + count) old new block within is ∙ zeros)
+      let at : k ≡ j = omega (arith, past, before) in
+      let all : pending_at w k ++ above ∷ [] ≡ taken v g.leaf k = taken_is v w g.leaf above k below here in
+      let addr : r.addr.0 ≡ g.leaf.addr.0 + suc k = above_addr v g.leaf r (suc k) raised_is in
+      let head_is : head_above g k number r.addr.0 (pending_at w k ++ above ∷ []) ≡ node_head g v k =
+      ap (λ (rs : List Ref). head_above g k number r.addr.0 rs) all ∙ ap₂ (λ (n a : ℕ). head_above g k n a (taken v g.leaf k)) number_is addr in
+      let reads : block_at new file (index + k) ≡ block = block_set file (index + k) old new block within is in
+      subst (λ (i : ℕ). IsHead (node_head g v i) → AreRefs (suc i) (taken v g.leaf i) → SpellsInner (block_at new file (index + i)) (node_head g v i) (taken v g.leaf i)) at
+      (λ lawful rules. subst (λ (b : List ℕ). SpellsInner b (node_head g v k) (taken v g.leaf k)) (sym reads)
+      (subst (λ (h : Head). SpellsInner block h (taken v g.leaf k)) head_is
+      (subst (λ (rs : List Ref). SpellsInner block (head_above g k number r.addr.0 (pending_at w k ++ above ∷ [])) rs) all
+      (spells (subst IsHead (sym head_is) lawful) (subst (AreRefs (suc k)) (sym all) rules)))))
+      head refs
 ]
 
 -- ---- What a stop leaves
@@ -123,12 +161,12 @@ leaves_then file index count from many old mid new low high so_far call = disk_g
       outside = outside_on file index count was.before more.before disk was.outside (outside_wider file index count from many more.before disk low high more.outside);
     })
 
--- a first block, and zeros behind it
-pub group_written : (file index others : ℕ) (old mid new : Files) (first : List ℕ) → index < length (file_at old file) → mid ≡ with_block old file index first
-    → IsOutside file (index + 1) others mid new → AreZeroed new file others (index + 1) → IsGroup file index others first old new
-group_written file index others old mid new first within is outside zeros = record {
-  outside = outside_on file index (1 + others) old mid new (outside_set file index (1 + others) index old mid first (omega arith) (omega arith) is)
-      (outside_wider file index (1 + others) (index + 1) others mid new (omega arith) (omega arith) outside);
+-- a first block, and inner nodes behind it
+pub group_made : (file index : ℕ) (g : Group) (v : Lists) (old mid new : Files) (first : List ℕ) → index < length (file_at old file) → mid ≡ with_block old file index first
+    → IsOutside file (index + 1) g.others mid new → AreNodeBlocks g v g.others file (index + 1) new → IsGroup file index g v first old new
+group_made file index g v old mid new first within is outside nodes = record {
+  outside = outside_on file index (1 + g.others) old mid new (outside_set file index (1 + g.others) index old mid first (omega arith) (omega arith) is)
+      (outside_wider file index (1 + g.others) (index + 1) g.others mid new (omega arith) (omega arith) outside);
   block = outside.below index (omega arith) ∙ block_set file index old mid first within is;
-  zeros = zeros;
+  nodes = nodes;
 }

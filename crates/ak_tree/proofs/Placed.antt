@@ -1,8 +1,8 @@
 -- What a group that is written leaves of the disk.
-use Rattle.std.proofs.Common.{◌≡◌, ◌≢◌, inl, inr, ℕ, zero, suc, ◌+◌, ◌-◌, ◌^◌, ◌<◌, ◌≤◌, ◌∙◌, List, [], ◌∷◌, length, false, sym, ap, subst, arith}
+use Rattle.std.proofs.Common.{◌≡◌, ◌≢◌, ◌⊎◌, inl, inr, ℕ, zero, suc, ◌+◌, ◌-◌, ◌^◌, ◌<◌, ◌≤◌, ◌∙◌, List, [], ◌∷◌, ◌++◌, length, map, get_or, set, false, refl, sym, ap, subst, arith}
 use Rattle.std.proofs.lemmas.Bool.{cases_eq}
 use Rattle.std.proofs.lemmas.Grind.{common_steps}
-use Rattle.std.proofs.lemmas.List.{length-set}
+use Rattle.std.proofs.lemmas.List.{length-set, length_push}
 use Rattle.std.specs.Prelude.{◌%◌, slice_index, slice_index_or}
 use Rattle.ak_base.specs.Points.{IsHistoryFrom, last_ts_from}
 use Rattle.ak_base.specs.declared.limits.Limits.{Limits}
@@ -11,25 +11,34 @@ use Rattle.ak_bytes.specs.declared.head.Head.{Head}
 use Rattle.ak_host.specs.Files.{Files, file_at, block_at}
 use Rattle.ak_host.specs.Moments.{HostState, DiskPasses, LeavesNow}
 use Rattle.ak_host.proofs.Passing.{disk_now, disk_weaker}
+use Rattle.ak_bytes.specs.Head.{IsLeafHead, IsInnerHead}
 use Rattle.ak_image.specs.Blocks.{seen_in, HasVolumes}
-use Rattle.ak_image.specs.Groups.{AreZeros}
 use Rattle.ak_image.specs.Scans.{IsLeafOf}
-use Rattle.ak_image.specs.Laid.{IsLaid, IsWritten, spot, rescue_in, last_in, next_leaf}
+use Rattle.ak_image.specs.Laid.{IsLaid, IsWritten, spot, rescue_in, last_in, series_in, kept_in, next_leaf, next_known}
+use Rattle.ak_image.specs.Planted.{IsPlanted, ArePlanted, AreNodes}
 use Rattle.ak_image.proofs.Agreeing.{laid_agree}
-use Rattle.ak_image.proofs.Places.{ordinal_at, index_at}
 use Rattle.ak_image.proofs.Standing.{newest_same}
 use Rattle.ak_image.proofs.StepLaid.{leaf_laid}
 use Rattle.ak_leaf.specs.Leaf.{SpellsLeaf}
 use Rattle.ak_levels.specs.Carries.{carry_of}
+use Rattle.ak_levels.specs.Closes.{leaf_ref, closed_lists}
+use Rattle.ak_levels.specs.Entries.{AreLawful}
+use Rattle.ak_levels.specs.Orders.{all_below, AreInOrder}
+use Rattle.ak_levels.specs.Pending.{Lists, no_lists}
 use Rattle.ak_meta.specs.Contents.{Content, IsMeta}
-use Rattle.ak_meta.specs.Leaves.{closed_in, leaves_at}
+use Rattle.ak_meta.specs.Leaves.{closed_in, leaves_at, with_leaf_at}
 use Rattle.ak_meta.specs.declared.meta.SeriesMeta.{SeriesMeta}
 use Rattle.ak_tree.specs.Storing.{IsStored, IsLeftOf}
-use Rattle.ak_tree.specs.Writing.{IsOutside, AreZeroed, IsGroup, LeavesOutside}
+use Rattle.ak_tree.specs.Standing.{base_of, bases_of}
+use Rattle.ak_tree.specs.Writing.{IsOutside, IsGroup, LeavesOutside}
+use Rattle.ak_image.proofs.Entering.{planted_group as planted_with_leaf}
+use Rattle.ak_tree.proofs.Becoming.{becomes_filled}
 use Rattle.ak_tree.proofs.Framing.{length_known}
+use Rattle.ak_tree.proofs.Groups.{block_seen, group_at, nodes_written, inner_there}
+use Rattle.ak_tree.proofs.Waiting.{planted_in, planted_entered}
 use Rattle.ak_volumes.specs.Ordinals.{Ordinals, AreOrdinals, IsLiveOrdinal, IsLive, newest, newest_fill, address, ordinal_of, index_of, fill_of, file_of, filled}
-use Rattle.ak_world.specs.Leaves.{Leaf, Series}
-use Rattle.ak_world.specs.Steps.{entered, group_of, leaves_in, written_in}
+use Rattle.ak_world.specs.Leaves.{Leaf, Series, closed_at, leaf_at}
+use Rattle.ak_world.specs.Steps.{changed, entered, group_of, leaves_in, written_in}
 use Rattle.ak_world.specs.Valid.{IsWorld, AreSeriesOf, kept_with}
 use Rattle.ak_world.specs.Views.{View, all_known}
 use Rattle.ak_world.specs.Worlds.{World, content_now, kept_now}
@@ -67,18 +76,21 @@ live_same o group old new are out a live = elim (cases_eq (file_of o (ordinal_of
 abbrev pub IsLeafBlock : List ℕ → Content → ℕ → List Point → Type 0
 IsLeafBlock block c n ps = (head : Head) × SpellsLeaf block head ps × (head.series ≡ n) × (head.number ≡ leaves_at c.series n) × (head.addr.0 ≡ spot c.ordinals) × (head.elder.0 ≡ rescue_in c.series n)
 
-block_seen : (volumes ordinal index : ℕ) (files : Files) → index < 2 ^ 32 → seen_in volumes files (address ordinal index) ≡ block_at files (1 + ordinal % volumes) index
-block_seen volumes ordinal index files small =
-    ap (λ (n : ℕ). block_at files (1 + n % volumes) (index_of (address ordinal index))) (ordinal_at ordinal index small)
-    ∙ ap (λ (i : ℕ). block_at files (1 + ordinal % volumes) i) (index_at ordinal index small)
+-- it has points, and not too many
+points_of_block : (block : List ℕ) (c : Content) (n : ℕ) (ps : List Point) → IsLeafBlock block c n ps → (1 ≤ length ps) × (length ps ≤ 2016)
+points_of_block block c n ps is = by is.1.head.head.kind
+  where
+    by : IsLeafHead is.0 ⊎ IsInnerHead is.0 → (1 ≤ length ps) × (length ps ≤ 2016)
+    by (inl leaf) = (omega (arith, leaf.some, is.1.head.count), omega (arith, leaf.count, is.1.head.count))
+    by (inr inner) = absurd (omega (arith, inner.kind, is.1.head.kind))
 
-zeros_seen : (volumes ordinal count index : ℕ) (files : Files) → index + count ≤ 2 ^ 32 → AreZeroed files (1 + ordinal % volumes) count index → AreZeros (seen_in volumes files) count (address ordinal index)
-zeros_seen volumes ordinal zero index files small are = tt
-zeros_seen volumes ordinal (suc count) index files small are =
-    let next : address ordinal (index + 1) ≡ address ordinal index + 1 = omega arith in (
-      block_seen volumes ordinal index files (omega arith) ∙ are.0,
-      subst (λ (a : ℕ). AreZeros (seen_in volumes files) count a) next (zeros_seen volumes ordinal count (index + 1) files (omega arith) are.1),
-    )
+some_points : (ps : List Point) → 1 ≤ length ps → ps ≢ []
+some_points [] some e = omega (arith, some)
+some_points (p ∷ ps) some e = cc
+
+-- the group of a leaf of a series was written where it is to stand, where this waited
+abbrev pub IsGroupOf : Content → ℕ → List Point → Lists → List ℕ → Files → Files → Type 0
+IsGroupOf c n ps u block old new = IsGroup (file_of c.ordinals (newest c.ordinals)) (newest_fill c.ordinals) (group_at c n ps) u block old new
 
 module _ (c : Content) (n : ℕ) (ps : List Point) (rules : IsMeta c) (room : newest_fill c.ordinals + (1 + carry_of (leaves_at c.series n)) ≤ c.ordinals.blocks) where
   leaf_written : (block : List ℕ) (files : Files) → IsLeafBlock block c n ps → block_at files (file_of c.ordinals (newest c.ordinals)) (newest_fill c.ordinals) ≡ block
@@ -95,22 +107,20 @@ module _ (c : Content) (n : ℕ) (ps : List Point) (rules : IsMeta c) (room : ne
         elder_is = is.5;
       }
 
-  zeros_written : (files : Files) → AreZeroed files (file_of c.ordinals (newest c.ordinals)) (carry_of (leaves_at c.series n)) (newest_fill c.ordinals + 1)
-      → AreZeros (seen_in c.ordinals.volumes files) (carry_of (leaves_at c.series n)) (spot c.ordinals + 1)
-  zeros_written files are =
-      let next : address (newest c.ordinals) (newest_fill c.ordinals + 1) ≡ spot c.ordinals + 1 = omega arith in
-      subst (λ (a : ℕ). AreZeros (seen_in c.ordinals.volumes files) (carry_of (leaves_at c.series n)) a) next
-      (zeros_seen c.ordinals.volumes (newest c.ordinals) (carry_of (leaves_at c.series n)) (newest_fill c.ordinals + 1) files (omega (arith, room, rules.ordinals_are.indexes)) are)
+  pub nodes_there : (block : List ℕ) (old new : Files) (u : Lists) → n < length c.series → AreLawful (leaves_at c.series n) u → IsHistoryFrom (last_in c.series n) ps → AreInOrder 0 (series_in c.series n).last (all_below u 11)
+      → IsLeafBlock block c n ps → IsGroupOf c n ps u block old new → AreNodes (seen_in c.limits.volumes new) c n ps u
+  nodes_there block old new u within lawful history order is group =
+      let many = points_of_block block c n ps is in
+      subst (λ (v : ℕ). AreNodes (seen_in v new) c n ps u) rules.volumes
+      (nodes_written c n ps u rules within room lawful new (some_points ps many.0) many.1 history order group.nodes)
 
-  pub group_written : (block : List ℕ) (old new : Files) → IsLeafBlock block c n ps → IsGroup (file_of c.ordinals (newest c.ordinals)) (newest_fill c.ordinals) (carry_of (leaves_at c.series n)) block old new
+  pub group_written : (block : List ℕ) (old new : Files) (u : Lists) → IsLeafBlock block c n ps → IsGroupOf c n ps u block old new → AreNodes (seen_in c.limits.volumes new) c n ps u
       → IsWritten (seen_in c.limits.volumes old) (seen_in c.limits.volumes new) c n ps
-  group_written block old new is group =
-      let by : IsWritten (seen_in c.ordinals.volumes old) (seen_in c.ordinals.volumes new) c n ps = record {
-        same = live_same c.ordinals (1 + carry_of (leaves_at c.series n)) old new rules.ordinals_are group.outside;
-        leaf = leaf_written block new is group.block;
-        zeros = zeros_written new group.zeros;
-      } in
-      subst (λ (v : ℕ). IsWritten (seen_in v old) (seen_in v new) c n ps) rules.volumes by
+  group_written block old new u is group nodes = record {
+    same = subst (λ (v : ℕ). (a : ℕ) → IsLive c.ordinals a → seen_in v new a ≡ seen_in v old a) rules.volumes (live_same c.ordinals (1 + carry_of (leaves_at c.series n)) old new rules.ordinals_are group.outside);
+    leaf = subst (λ (v : ℕ). IsLeafOf (seen_in v new) n (rescue_in c.series n) (next_leaf c n ps)) rules.volumes (leaf_written block new is group.block);
+    inner = inner_there (seen_in c.limits.volumes new) c n ps u nodes;
+  }
 
 -- ---- What a stop leaves
 
@@ -162,6 +172,15 @@ same_file : (o : Ordinals) (blocks : ℕ) → file_of (filled o blocks) (newest 
 same_file o blocks =
     ap (λ (n : ℕ). 1 + (o.lo + n - 1) % o.volumes) (length-set o.fills (length o.fills - 1) (newest_fill o + blocks))
 
+-- each series has the same first leaf at the opening
+base_closed : (s : Series) (a : ℕ) → base_of (closed_at s a) ≡ base_of s
+base_closed s a = omega (arith, length_push s.closed (leaf_at s a))
+
+bases_closed : (ss : List Series) (n a : ℕ) → map base_of (changed ss n (λ (s : Series). closed_at s a)) ≡ map base_of ss
+bases_closed [] n a = refl
+bases_closed (s ∷ ss) zero a = ap (λ (b : ℕ). b ∷ map base_of ss) (base_closed s a)
+bases_closed (s ∷ ss) (suc n) a = ap (λ (l : List ℕ). base_of s ∷ l) (bases_closed ss n a)
+
 -- a world, and a leaf of it that is closed
 pub record IsClosing (v : World) (n : ℕ) : Type 0 where
   pub valid : IsWorld v
@@ -181,48 +200,96 @@ module _ (v : World) (n : ℕ) (is : IsClosing v n) where
   room_for : newest_fill v.ordinals + (1 + carry_of (leaves_at (content_now v).series n)) ≤ v.ordinals.blocks
   room_for = subst (λ (m : ℕ). newest_fill v.ordinals + (1 + carry_of m) ≤ v.ordinals.blocks) (sym same_leaves) is.room
 
-  laid_written : (block : List ℕ) (old new : Files) → IsLeafBlock block (content_now v) n (written_in v.series n) → IsGroup (file_of v.ordinals (newest v.ordinals)) (newest_fill v.ordinals) (carry_of (leaves_at (content_now v).series n)) block old new
-      → IsLaid (seen_in (content_now v).limits.volumes old) (content_now v) (kept_now v)
-      → IsLaid (seen_in (content_now v).limits.volumes new)
-      (closed_in (record (content_now v) { ordinals = filled v.ordinals (group_of v n) }) n (last_ts_from 0 (written_in v.series n)) (address (newest v.ordinals) (newest_fill v.ordinals)))
-      (kept_with (kept_now v) n (record { number = leaves_in v.series n; address = address (newest v.ordinals) (newest_fill v.ordinals); points = written_in v.series n }))
-  laid_written block old new leaf group laid =
-      let c : Content = content_now v in
-      let ps = written_in v.series n in
-      let size : n < length c.series = omega (arith, length_known v.opened.content.series v.series, is.within) in
-      let written : IsWritten (seen_in c.limits.volumes old) (seen_in c.limits.volumes new) c n ps = group_written c n ps is.rules room_for block old new leaf group in
-      let by = leaf_laid (seen_in c.limits.volumes old) (seen_in c.limits.volumes new) c (kept_now v) n ps is.rules laid size room_for (history_of v.opened.content.series v.series n is.valid.series is.within) written in
-      subst (λ (m : ℕ). IsLaid (seen_in c.limits.volumes new) (closed_in (record c { ordinals = filled c.ordinals (1 + carry_of m) }) n (last_ts_from 0 ps) (spot c.ordinals)) (kept_with (kept_now v) n (record { number = m; address = spot c.ordinals; points = ps })))
-      same_leaves by
+  within_here : n < length (content_now v).series
+  within_here = omega (arith, length_known v.opened.content.series v.series, is.within)
 
-  pub stored_written : (block : List ℕ) (old new : HostState) → IsLeafBlock block (content_now v) n (written_in v.series n)
-      → IsGroup (file_of v.ordinals (newest v.ordinals)) (newest_fill v.ordinals) (carry_of (leaves_at (content_now v).series n)) block old.files new.files
+  history_here : IsHistoryFrom (last_in (content_now v).series n) (written_in v.series n)
+  history_here = history_of v.opened.content.series v.series n is.valid.series is.within
+
+  -- what waits once the leaf is closed
+  abbrev waits : Lists → Lists
+  waits u = closed_lists u (leaves_at (content_now v).series n) (leaf_ref (spot v.ordinals) (written_in v.series n))
+
+  module _ (block : List ℕ) (old new : Files) (levels : List Lists) (leaf : IsLeafBlock block (content_now v) n (written_in v.series n))
+      (group : IsGroupOf (content_now v) n (written_in v.series n) (get_or levels n no_lists) block old new) (lawful : AreLawful (leaves_at (content_now v).series n) (get_or levels n no_lists)) (long : length (get_or levels n no_lists).pending ≡ 11)
+      (laid : IsLaid (seen_in (content_now v).limits.volumes old) (content_now v) (kept_now v))
+      (planted : ArePlanted v.ordinals (seen_in (content_now v).limits.volumes old) 0 (content_now v).series (kept_now v) (bases_of v) levels) where
+    here : (base : ℕ) × IsPlanted v.ordinals (seen_in (content_now v).limits.volumes old) n (series_in (content_now v).series n) (kept_in (kept_now v) n) base (get_or levels n no_lists)
+    here = planted_in v.ordinals (seen_in (content_now v).limits.volumes old) 0 n n (content_now v).series (kept_now v) (bases_of v) levels within_here (omega arith) planted
+
+    nodes : AreNodes (seen_in (content_now v).limits.volumes new) (content_now v) n (written_in v.series n) (get_or levels n no_lists)
+    nodes = nodes_there (content_now v) n (written_in v.series n) is.rules room_for block old new (get_or levels n no_lists) within_here lawful history_here here.1.order leaf group
+
+    written : IsWritten (seen_in (content_now v).limits.volumes old) (seen_in (content_now v).limits.volumes new) (content_now v) n (written_in v.series n)
+    written = group_written (content_now v) n (written_in v.series n) is.rules room_for block old new (get_or levels n no_lists) leaf group nodes
+
+    next_planted : (base : ℕ) → IsPlanted v.ordinals (seen_in (content_now v).limits.volumes old) n (series_in (content_now v).series n) (kept_in (kept_now v) n) base (get_or levels n no_lists)
+        → IsPlanted (filled v.ordinals (1 + carry_of (leaves_at (content_now v).series n))) (seen_in (content_now v).limits.volumes new) n (next_known (content_now v) n (written_in v.series n))
+        (kept_in (kept_now v) n ++ next_leaf (content_now v) n (written_in v.series n) ∷ []) base (waits (get_or levels n no_lists))
+    next_planted base was =
+        planted_with_leaf (seen_in (content_now v).limits.volumes old) (seen_in (content_now v).limits.volumes new) (content_now v) (kept_now v) n base (written_in v.series n) (get_or levels n no_lists) is.rules laid within_here room_for history_here
+        written nodes long was
+
+    pub laid_written : IsLaid (seen_in (content_now v).limits.volumes new)
+        (closed_in (record (content_now v) { ordinals = filled v.ordinals (group_of v n) }) n (last_ts_from 0 (written_in v.series n)) (address (newest v.ordinals) (newest_fill v.ordinals)))
+        (kept_with (kept_now v) n (record { number = leaves_in v.series n; address = address (newest v.ordinals) (newest_fill v.ordinals); points = written_in v.series n }))
+    laid_written =
+        let c : Content = content_now v in
+        let ps = written_in v.series n in
+        let by = leaf_laid (seen_in c.limits.volumes old) (seen_in c.limits.volumes new) c (kept_now v) n ps is.rules laid within_here room_for history_here written (next_planted here.0 here.1).grown.tree in
+        subst (λ (m : ℕ). IsLaid (seen_in c.limits.volumes new) (closed_in (record c { ordinals = filled c.ordinals (1 + carry_of m) }) n (last_ts_from 0 ps) (spot c.ordinals)) (kept_with (kept_now v) n (record { number = m; address = spot c.ordinals; points = ps })))
+        same_leaves by
+
+    pub planted_written : ArePlanted (filled v.ordinals (group_of v n)) (seen_in (content_now v).limits.volumes new) 0
+        (with_leaf_at (content_now v).series n (last_ts_from 0 (written_in v.series n)) (address (newest v.ordinals) (newest_fill v.ordinals)))
+        (kept_with (kept_now v) n (record { number = leaves_in v.series n; address = address (newest v.ordinals) (newest_fill v.ordinals); points = written_in v.series n })) (bases_of v)
+        (set levels n (waits (get_or levels n no_lists)))
+    planted_written =
+        let c : Content = content_now v in
+        let ps = written_in v.series n in
+        let blocks = 1 + carry_of (leaves_at c.series n) in
+        let by = planted_entered c.ordinals (filled c.ordinals blocks) (seen_in c.limits.volumes old) (seen_in c.limits.volumes new) 0 n n (last_ts_from 0 ps) (spot c.ordinals) c.series (kept_now v) (bases_of v) levels (next_leaf c n ps)
+        (waits (get_or levels n no_lists)) refl (λ a live. ((becomes_filled c blocks).live a live live.ordinal.from, written.same a live)) within_here (omega arith) next_planted planted in
+        subst (λ (m : ℕ). ArePlanted (filled c.ordinals (1 + carry_of m)) (seen_in c.limits.volumes new) 0 (with_leaf_at c.series n (last_ts_from 0 ps) (spot c.ordinals)) (kept_with (kept_now v) n (record { number = m; address = spot c.ordinals; points = ps }))
+        (bases_of v) (set levels n (waits (get_or levels n no_lists)))) same_leaves by
+
+  pub stored_written : (block : List ℕ) (old new : HostState) (levels : List Lists) → IsLeafBlock block (content_now v) n (written_in v.series n)
+      → IsGroupOf (content_now v) n (written_in v.series n) (get_or levels n no_lists) block old.files new.files → AreLawful (leaves_at (content_now v).series n) (get_or levels n no_lists) → length (get_or levels n no_lists).pending ≡ 11
       → DiskPasses (LeavesOutside (file_of v.ordinals (newest v.ordinals)) (newest_fill v.ordinals) (1 + carry_of (leaves_at (content_now v).series n)) old) old new
-      → IsStored v.last (content_now v) (kept_now v) (file_of v.ordinals (newest v.ordinals)) old
-      → IsStored (entered v n (group_of v n)).last (content_now (entered v n (group_of v n))) (kept_now (entered v n (group_of v n))) (file_of (entered v n (group_of v n)).ordinals (newest (entered v n (group_of v n)).ordinals)) new
-  stored_written block old new leaf group run stored =
+      → IsStored v.last (content_now v) (kept_now v) (bases_of v) levels (file_of v.ordinals (newest v.ordinals)) old
+      → IsStored (entered v n (group_of v n)).last (content_now (entered v n (group_of v n))) (kept_now (entered v n (group_of v n))) (bases_of (entered v n (group_of v n))) (set levels n (waits (get_or levels n no_lists)))
+      (file_of (entered v n (group_of v n)).ordinals (newest (entered v n (group_of v n)).ordinals)) new
+  stored_written block old new levels leaf group lawful long run stored =
       let u : World = after v n (group_of v n) in
       let c : Content = content_now v in
       let o = v.ordinals in
       let blocks = 1 + carry_of (leaves_at (content_now v).series n) in
-      let content : content_now u ≡ closed_in (record c { ordinals = filled o (group_of v n) }) n (last_ts_from 0 (written_in v.series n)) (address (newest o) (newest_fill o)) =
-      sym (ap content_now (after_is v n (group_of v n) is.fresh)) ∙ content_closed v n is.valid is.fresh is.within is.some in
-      let kept : kept_now u ≡ kept_with (kept_now v) n (record { number = leaves_in v.series n; address = address (newest o) (newest_fill o); points = written_in v.series n }) =
-      sym (ap kept_now (after_is v n (group_of v n) is.fresh)) ∙ kept_closed v n is.valid is.fresh is.within in
-      let laid = laid_written block old.files new.files leaf group stored.laid in
+      let a = address (newest o) (newest_fill o) in
+      let ps = written_in v.series n in
+      let next : Leaf = record { number = leaves_in v.series n; address = a; points = ps } in
+      let closed : Content = closed_in (record c { ordinals = filled o (group_of v n) }) n (last_ts_from 0 ps) a in
+      let content : content_now u ≡ closed = sym (ap content_now (after_is v n (group_of v n) is.fresh)) ∙ content_closed v n is.valid is.fresh is.within is.some in
+      let kept : kept_now u ≡ kept_with (kept_now v) n next = sym (ap kept_now (after_is v n (group_of v n) is.fresh)) ∙ kept_closed v n is.valid is.fresh is.within in
+      let bases : bases_of u ≡ bases_of v = bases_closed v.series n a in
+      let laid : IsLaid (seen_in c.limits.volumes new.files) closed (kept_with (kept_now v) n next) = laid_written block old.files new.files levels leaf group lawful long stored.laid stored.planted in
+      let planted : ArePlanted closed.ordinals (seen_in c.limits.volumes new.files) 0 closed.series (kept_with (kept_now v) n next) (bases_of v) (set levels n (waits (get_or levels n no_lists))) =
+      planted_written block old.files new.files levels leaf group lawful long stored.laid stored.planted in
       let volumes : v.last.content.limits.volumes ≡ o.volumes = ap (λ (l : Limits). l.volumes) is.valid.limits_are ∙ sym is.valid.volumes in
       let live = is.valid.behind.live in
       let file = file_of o (newest o) in
       let left : (disk : Files) → LeavesNow new disk → IsLeftOf v.last file old.files disk =
       disk_now (disk_weaker run (outside_left v.last o blocks is.valid.lawful volumes live old stored.left)) stored.left in
-      let main : IsStored u.last (content_now u) (kept_now u) (file_of u.ordinals (newest u.ordinals)) new = record {
+      let main : IsStored u.last (content_now u) (kept_now u) (bases_of u) (set levels n (waits (get_or levels n no_lists))) (file_of u.ordinals (newest u.ordinals)) new = record {
         rules_are = stored.rules_are;
         limits_are = stored.limits_are;
         laid = subst (λ (k : List (List Leaf)). IsLaid (seen_in c.limits.volumes new.files) (content_now u) k) (sym kept)
-            (subst (λ (x : Content). IsLaid (seen_in c.limits.volumes new.files) x (kept_with (kept_now v) n (record { number = leaves_in v.series n; address = address (newest o) (newest_fill o); points = written_in v.series n }))) (sym content) laid);
+            (subst (λ (x : Content). IsLaid (seen_in c.limits.volumes new.files) x (kept_with (kept_now v) n next)) (sym content) laid);
+        planted = subst (λ (b : List ℕ). ArePlanted u.ordinals (seen_in c.limits.volumes new.files) 0 (content_now u).series (kept_now u) b (set levels n (waits (get_or levels n no_lists)))) (sym bases)
+            (subst (λ (k : List (List Leaf)). ArePlanted u.ordinals (seen_in c.limits.volumes new.files) 0 (content_now u).series k (bases_of v) (set levels n (waits (get_or levels n no_lists)))) (sym kept)
+            (subst (λ (x : Content). ArePlanted x.ordinals (seen_in c.limits.volumes new.files) 0 x.series (kept_with (kept_now v) n next) (bases_of v) (set levels n (waits (get_or levels n no_lists)))) (sym content) planted));
         saved = laid_agree (seen_in c.limits.volumes old.files) (seen_in c.limits.volumes new.files) v.last.content v.last.kept stored.rules_are stored.saved
-            (λ a by. subst (λ (many : ℕ). seen_in many new.files a ≡ seen_in many old.files a) is.valid.volumes (live_same o blocks old.files new.files is.valid.lawful group.outside a (live a by)));
+            (λ b by. subst (λ (many : ℕ). seen_in many new.files b ≡ seen_in many old.files b) is.valid.volumes (live_same o blocks old.files new.files is.valid.lawful group.outside b (live b by)));
         left = λ disk now. subst (λ (f : ℕ). IsLeftOf v.last f new.files disk) (sym (same_file o (group_of v n)))
             (written_left v.last o blocks is.valid.lawful volumes live old.files new.files disk group.outside (left disk now));
       } in
-      subst (λ (x : World). IsStored x.last (content_now x) (kept_now x) (file_of x.ordinals (newest x.ordinals)) new) (sym (after_is v n (group_of v n) is.fresh)) main
+      subst (λ (x : World). IsStored x.last (content_now x) (kept_now x) (bases_of x) (set levels n (waits (get_or levels n no_lists))) (file_of x.ordinals (newest x.ordinals)) new) (sym (after_is v n (group_of v n) is.fresh)) main

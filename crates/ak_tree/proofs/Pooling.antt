@@ -289,7 +289,7 @@ own_leaf pool frames k n f are is =
 
 -- other frames of the same series
 pub trees_pooled : (f : Trees) (pool : Frames) (frames : List (Option Frame)) → AreTrees f → pool.count ≡ f.pool.count → ArePooled pool frames (length f.meta.series) → AreTrees (record f { pool = pool; frames = frames })
-trees_pooled f pool frames are count pooled = record { rules_are = are.rules_are; room = are.room; slot_is = are.slot_is; count = count ∙ are.count; pooled = pooled; since = are.since }
+trees_pooled f pool frames are count pooled = record { rules_are = are.rules_are; room = are.room; slot_is = are.slot_is; count = count ∙ are.count; pooled = pooled; lawful = are.lawful; since = are.since }
 
 pub trees_written : (f : Trees) (n : ℕ) (g : Frame) (w : List Point) → AreTrees f → get_or f.frames n None ≡ Some g → w ≢ [] → leaf_size w ≤ 4032
     → AreFrames (frames_of f.pool.count (moved_first (with_leaf f.pool.used g.0 w) g.0)) → AreTrees (record f { pool = frames_of f.pool.count (moved_first (with_leaf f.pool.used g.0 w) g.0) })

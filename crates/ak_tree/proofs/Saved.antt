@@ -12,6 +12,7 @@ use Rattle.ak_gate.specs.Slots.{Frame as Slot}
 use Rattle.ak_host.specs.Files.{Files}
 use Rattle.ak_host.specs.Moments.{HostState, DiskPasses, LeavesNow}
 use Rattle.ak_host.proofs.Passing.{disk_weaker}
+use Rattle.ak_levels.specs.Pending.{Lists}
 use Rattle.ak_meta.specs.Contents.{Content, IsMeta}
 use Rattle.ak_meta.proofs.Rooms.{switched_lawful}
 use Rattle.ak_pool.specs.Frames.{Frames, Used}
@@ -25,7 +26,7 @@ use Rattle.ak_world.specs.Views.{View, IsIn}
 use Rattle.ak_world.specs.Worlds.{World, views_of, worn_world, content_now, kept_now, next_view, after_view}
 use Rattle.ak_world.proofs.ContentsOfNames.{kept_switched}
 use Rattle.ak_world.proofs.Valid.{view_valid, switch_valid}
-use Rattle.ak_tree.specs.Standing.{Trees, AreTrees, Keeps, Holds, trees}
+use Rattle.ak_tree.specs.Standing.{Trees, AreTrees, Keeps, Holds, trees, bases_of}
 use Rattle.ak_tree.specs.Stops.{IsWornBy}
 use Rattle.ak_tree.specs.Storing.{IsStored, LeavesView, LeavesSaved}
 use Rattle.ak_tree.proofs.Joining.{in_more, in_push}
@@ -117,14 +118,15 @@ keeps_saved u f check not_worn valid content_is number recent open_leaves others
 }
 
 pub holds_view : (w : World) (f g : Trees) (host : HostState) → Keeps w f → w.last.number < 2 ^ 64 - 1 → g ≡ record f { check = g.check; since = 0 } → g.check.number ≡ f.check.number + 1
-    → IsStored (view_behind w.last f.meta (kept_now w)) f.meta (kept_now w) (file_of w.ordinals (newest w.ordinals)) host → Holds (after_view w) g host
+    → IsStored (view_behind w.last f.meta (kept_now w)) f.meta (kept_now w) (bases_of w) f.levels (file_of w.ordinals (newest w.ordinals)) host → Holds (after_view w) g host
 holds_view w f g host keeps below same number stored =
     let is = after_saved w below in
     let valid : IsWorld (saved_world w) = subst IsWorld is (view_valid w keeps.valid) in
     let kept = keeps_saved w f g.check keeps.not_worn valid keeps.content_is (omega (arith, number, keeps.number_is)) keeps.recent_is keeps.open_leaves keeps.others in
     subst (λ (v : World). Holds v g host) (sym is) (record {
       keeps = subst (Keeps (saved_world w)) (sym same) kept;
-      stored = subst (λ (c : Content). IsStored (view_behind w.last c (kept_now w)) c (kept_now w) (file_of w.ordinals (newest w.ordinals)) host) keeps.content_is stored;
+      stored = subst (λ (levels : List Lists). IsStored (next_view w) (content_now w) (kept_now w) (bases_of w) levels (file_of w.ordinals (newest w.ordinals)) host) (sym (ap (λ (t : Trees). t.levels) same))
+          (subst (λ (c : Content). IsStored (view_behind w.last c (kept_now w)) c (kept_now w) (bases_of w) f.levels (file_of w.ordinals (newest w.ordinals)) host) keeps.content_is stored);
     })
 
 -- what a record says where an ordinal begins
@@ -133,7 +135,7 @@ content_switched c = record c { ordinals = switched c.ordinals }
 
 pub holds_switch : (w : World) (f g : Trees) (host : HostState) → Keeps w f → newest w.ordinals < 2 ^ 32 - 1 → is_full w.ordinals ≡ false → w.last.number < 2 ^ 64 - 1
     → g ≡ record f { meta = content_switched f.meta; check = g.check; since = 0 } → g.check.number ≡ f.check.number + 1
-    → IsStored (view_behind w.last (content_switched f.meta) (kept_now w)) (content_switched f.meta) (kept_now w) (file_of (switched w.ordinals) (newest (switched w.ordinals))) host → Holds (switch w) g host
+    → IsStored (view_behind w.last (content_switched f.meta) (kept_now w)) (content_switched f.meta) (kept_now w) (bases_of w) f.levels (file_of (switched w.ordinals) (newest (switched w.ordinals))) host → Holds (switch w) g host
 holds_switch w f g host keeps below free least same number stored =
     let u : World = with_ordinal w in
     let is = switch_is w below free least in
@@ -141,10 +143,11 @@ holds_switch w f g host keeps below free least same number stored =
     let whole : (switch w).worn ≡ false = ap (λ (v : World). v.worn) is ∙ keeps.not_worn in
     let valid : IsWorld (saved_world u) = subst IsWorld is (switch_valid w keeps.valid whole) in
     let kept = keeps_saved u (record f { meta = content_switched f.meta }) g.check keeps.not_worn valid content_is (omega (arith, number, keeps.number_is)) keeps.recent_is keeps.open_leaves keeps.others in
-    let stored_kept = subst (λ (kept : List (List Leaf)). IsStored (view_behind w.last (content_switched f.meta) kept) (content_switched f.meta) kept (file_of u.ordinals (newest u.ordinals)) host) (sym (kept_switched w free)) stored in
+    let stored_kept = subst (λ (kept : List (List Leaf)). IsStored (view_behind w.last (content_switched f.meta) kept) (content_switched f.meta) kept (bases_of w) f.levels (file_of u.ordinals (newest u.ordinals)) host) (sym (kept_switched w free)) stored in
     subst (λ (v : World). Holds v g host) (sym is) (record {
       keeps = subst (Keeps (saved_world u)) (sym same) kept;
-      stored = subst (λ (c : Content). IsStored (view_behind w.last c (kept_now u)) c (kept_now u) (file_of u.ordinals (newest u.ordinals)) host) content_is stored_kept;
+      stored = subst (λ (levels : List Lists). IsStored (next_view u) (content_now u) (kept_now u) (bases_of w) levels (file_of u.ordinals (newest u.ordinals)) host) (sym (ap (λ (t : Trees). t.levels) same))
+          (subst (λ (c : Content). IsStored (view_behind w.last c (kept_now u)) c (kept_now u) (bases_of w) f.levels (file_of u.ordinals (newest u.ordinals)) host) content_is stored_kept);
     })
 
 -- ---- Worn stores
@@ -179,49 +182,49 @@ abbrev pub Finished : HostState → HostState → Saving → Type 0
 Finished old new s = (before : Option Slot) (c : Content) → Rests s.gate.slot before old → IsMeta c → c.limits.slot ≡ s.gate.slot → s.bytes ≡ frame_bytes (frame_for s.number c)
     → (left : Files) → LeavesNow new left → IsSavedOver s.file old left × HasNewest s.gate.slot (Some (frame_for s.number c)) left
 
-module _ (last : View) (c : Content) (kept : List (List Leaf)) (file : ℕ) (check s : Saving) (old new : HostState) (stored : IsStored last c kept file old) (number : last.number ≡ check.number)
+module _ (last : View) (c : Content) (kept : List (List Leaf)) (bases : List ℕ) (levels : List Lists) (file : ℕ) (check s : Saving) (old new : HostState) (stored : IsStored last c kept bases levels file old) (number : last.number ≡ check.number)
     (rules : IsMeta c) (slot : check.gate.slot ≡ c.limits.slot) (is : s ≡ begun check c file) where
   rests_before : Rests check.gate.slot (Some (frame_for last.number last.content)) old
-  rests_before = subst (λ (n : ℕ). Rests n (Some (frame_for last.number last.content)) old) (sym slot) (last_rests last c kept file old stored)
+  rests_before = subst (λ (n : ℕ). Rests n (Some (frame_for last.number last.content)) old) (sym slot) (last_rests last c kept bases levels file old stored)
 
   pub finishing_leaves : Finishing old new s → DiskPasses (LeavesSaved last (view_behind last c kept)) old new
   finishing_leaves finishing =
       let run = subst (Finishing old new) is finishing (Some (frame_for last.number last.content)) c rests_before rules (sym slot) refl in
       let same = subst (λ (n : ℕ). DiskPasses (IsSaving n file (Some (frame_for last.number last.content)) (frame_for (check.number + 1) c) old) old new) slot run in
       let now = subst (λ (n : ℕ). DiskPasses (IsSaving c.limits.slot file (Some (frame_for last.number last.content)) (frame_for (n + 1) c) old) old new) (sym number) same in
-      disk_weaker now (saving_leaves last c kept file old stored rules)
+      disk_weaker now (saving_leaves last c kept bases levels file old stored rules)
 
-  pub finished_stored : (next : ℕ) → SameElsewhere old.files new.files → Finished old new s → IsStored (view_behind last c kept) c kept next new
+  pub finished_stored : (next : ℕ) → SameElsewhere old.files new.files → Finished old new s → IsStored (view_behind last c kept) c kept bases levels next new
   finished_stored next elsewhere finished =
       let saved = subst (Finished old new) is finished (Some (frame_for last.number last.content)) c rests_before rules (sym slot) refl in
-      stored_next last c kept file old stored rules next new elsewhere (λ disk left. (
+      stored_next last c kept bases levels file old stored rules next new elsewhere (λ disk left. (
         (saved disk left).0,
         subst (λ (k : ℕ). HasNewest c.limits.slot (Some (frame_for (k + 1) c)) disk) (sym number) (subst (λ (n : ℕ). HasNewest n (Some (frame_for (check.number + 1) c)) disk) slot (saved disk left).1),
       ))
 
 -- what is said of a view that is saved
 abbrev pub SavesTo : Content → ℕ → ℕ → HostState → HostState → Type 0
-SavesTo c file number old new = (last : View) (kept : List (List Leaf)) (next : ℕ) → IsStored last c kept file old → last.number ≡ number → IsStored (view_behind last c kept) c kept next new
+SavesTo c file number old new = (last : View) (kept : List (List Leaf)) (bases : List ℕ) (levels : List Lists) (next : ℕ) → IsStored last c kept bases levels file old → last.number ≡ number → IsStored (view_behind last c kept) c kept bases levels next new
 
 abbrev pub Saves : {T E : Type 0} → Result T E → Content → ℕ → ℕ → HostState → HostState → Type 0
-Saves r c file number old new = (last : View) (kept : List (List Leaf)) (next : ℕ) → IsStored last c kept file old → last.number ≡ number → OnOk r (IsStored (view_behind last c kept) c kept next new)
+Saves r c file number old new = (last : View) (kept : List (List Leaf)) (bases : List ℕ) (levels : List Lists) (next : ℕ) → IsStored last c kept bases levels file old → last.number ≡ number → OnOk r (IsStored (view_behind last c kept) c kept bases levels next new)
 
 abbrev pub SavingPasses : Content → ℕ → ℕ → HostState → HostState → Type 0
-SavingPasses c file number old new = (last : View) (kept : List (List Leaf)) → IsStored last c kept file old → last.number ≡ number → DiskPasses (LeavesSaved last (view_behind last c kept)) old new
+SavingPasses c file number old new = (last : View) (kept : List (List Leaf)) (bases : List ℕ) (levels : List Lists) → IsStored last c kept bases levels file old → last.number ≡ number → DiskPasses (LeavesSaved last (view_behind last c kept)) old new
 
 module _ (w : World) (f : Trees) (file : ℕ) (old new : HostState) (holds : Holds w f old) (file_is : file ≡ file_of f.meta.ordinals (newest f.meta.ordinals)) where
-  pub stored_here : IsStored w.last f.meta (kept_now w) file old
-  stored_here = subst (λ (k : ℕ). IsStored w.last f.meta (kept_now w) k old) (sym file_is)
-      (subst (λ (c : Content). IsStored w.last c (kept_now w) (file_of c.ordinals (newest c.ordinals)) old) (sym holds.keeps.content_is) holds.stored)
+  pub stored_here : IsStored w.last f.meta (kept_now w) (bases_of w) f.levels file old
+  stored_here = subst (λ (k : ℕ). IsStored w.last f.meta (kept_now w) (bases_of w) f.levels k old) (sym file_is)
+      (subst (λ (c : Content). IsStored w.last c (kept_now w) (bases_of w) f.levels (file_of c.ordinals (newest c.ordinals)) old) (sym holds.keeps.content_is) holds.stored)
 
   pub view_holds : {T E : Type 0} (r : Result T E) (g : Trees) → OnOk r (g ≡ record f { check = g.check; since = 0 }) → OnOk r (g.check.number ≡ f.check.number + 1) → OnOk r (f.check.number < 2 ^ 64 - 1)
       → Saves r f.meta file f.check.number old new → OnOk r (Holds (after_view w) g new)
   view_holds r g same number below saves =
-      four_ok r same number below (saves w.last (kept_now w) (file_of w.ordinals (newest w.ordinals)) stored_here (sym holds.keeps.number_is)) (λ is next least stored.
+      four_ok r same number below (saves w.last (kept_now w) (bases_of w) f.levels (file_of w.ordinals (newest w.ordinals)) stored_here (sym holds.keeps.number_is)) (λ is next least stored.
       holds_view w f g new holds.keeps (omega (arith, holds.keeps.number_is, least)) is next stored)
 
   pub view_leaves : f.check.number < 2 ^ 64 - 1 → SavingPasses f.meta file f.check.number old new → DiskPasses (LeavesView w (after_view w)) old new
-  view_leaves least run = view_passes w f.meta old new (omega (arith, holds.keeps.number_is, least)) holds.keeps.content_is (run w.last (kept_now w) stored_here (sym holds.keeps.number_is))
+  view_leaves least run = view_passes w f.meta old new (omega (arith, holds.keeps.number_is, least)) holds.keeps.content_is (run w.last (kept_now w) (bases_of w) f.levels stored_here (sym holds.keeps.number_is))
 
   module _ (rules : IsMeta f.meta) (below : newest f.meta.ordinals < 2 ^ 32 - 1) (free : length f.meta.ordinals.fills ≡ f.meta.limits.volumes → ⊥) (h : Trees) (begun_is : h ≡ record f { meta = content_switched f.meta }) where
     has_free : is_full f.meta.ordinals ≡ false
@@ -236,8 +239,8 @@ module _ (w : World) (f : Trees) (file : ℕ) (old new : HostState) (holds : Hol
     world_below : newest w.ordinals < 2 ^ 32 - 1
     world_below = subst (λ (o : Ordinals). newest o < 2 ^ 32 - 1) ordinals_are below
 
-    stored_begun : IsStored w.last h.meta (kept_now w) file old
-    stored_begun = subst (λ (t : Trees). IsStored w.last t.meta (kept_now w) file old) (sym begun_is) (stored_switched w.last f.meta (kept_now w) file old stored_here rules has_free)
+    stored_begun : IsStored w.last h.meta (kept_now w) (bases_of w) f.levels file old
+    stored_begun = subst (λ (t : Trees). IsStored w.last t.meta (kept_now w) (bases_of w) f.levels file old) (sym begun_is) (stored_switched w.last f.meta (kept_now w) (bases_of w) f.levels file old stored_here rules has_free)
 
     check_is : h.check.number ≡ f.check.number
     check_is = ap (λ (t : Trees). t.check.number) begun_is
@@ -252,24 +255,25 @@ module _ (w : World) (f : Trees) (file : ℕ) (old new : HostState) (holds : Hol
         → Saves r h.meta file h.check.number old new → OnOk r (Holds (switch w) g new)
     switch_holds r g same number least saves =
         let next : ℕ = file_of (switched w.ordinals) (newest (switched w.ordinals)) in
-        four_ok r same number least (saves w.last (kept_now w) next stored_begun number_is) (λ is behind small stored.
+        four_ok r same number least (saves w.last (kept_now w) (bases_of w) f.levels next stored_begun number_is) (λ is behind small stored.
         holds_switch w f g new holds.keeps world_below world_free (omega (arith, number_is, small))
         (is ∙ ap (λ (t : Trees). record t { check = g.check; since = 0 }) begun_is) (omega (arith, behind, check_is))
-        (subst (λ (c : Content). IsStored (view_behind w.last c (kept_now w)) c (kept_now w) next new) meta_is stored))
+        (subst (λ (c : Content). IsStored (view_behind w.last c (kept_now w)) c (kept_now w) (bases_of w) f.levels next new) meta_is stored))
 
     pub switch_leaves : h.check.number < 2 ^ 64 - 1 → SavingPasses h.meta file h.check.number old new → DiskPasses (LeavesView w (switch w)) old new
     switch_leaves least run =
-        switch_passes w h.meta old new world_below world_free (omega (arith, number_is, least)) (meta_is ∙ ap content_switched holds.keeps.content_is) (run w.last (kept_now w) stored_begun number_is)
+        switch_passes w h.meta old new world_below world_free (omega (arith, number_is, least)) (meta_is ∙ ap content_switched holds.keeps.content_is) (run w.last (kept_now w) (bases_of w) f.levels stored_begun number_is)
 
 -- the forest stays one where an ordinal begins
-pub trees_switched : (c : Content) (o : Ordinals) (pool : Frames) (frames : List (Option Frame)) (check : Saving) (since : ℕ) → AreTrees (trees c pool frames check since) → newest c.ordinals < 2 ^ 32 - 1 → o ≡ switched c.ordinals
-    → AreTrees (trees (record c { ordinals = o }) pool frames check since)
-trees_switched c o pool frames check since are below is = subst (λ (p : Ordinals). AreTrees (trees (record c { ordinals = p }) pool frames check since)) (sym is) (record {
+pub trees_switched : (c : Content) (o : Ordinals) (pool : Frames) (frames : List (Option Frame)) (levels : List Lists) (check : Saving) (since : ℕ) → AreTrees (trees c pool frames levels check since) → newest c.ordinals < 2 ^ 32 - 1 → o ≡ switched c.ordinals
+    → AreTrees (trees (record c { ordinals = o }) pool frames levels check since)
+trees_switched c o pool frames levels check since are below is = subst (λ (p : Ordinals). AreTrees (trees (record c { ordinals = p }) pool frames levels check since)) (sym is) (record {
   rules_are = switched_lawful c are.rules_are below;
   room = are.room;
   slot_is = are.slot_is;
   count = are.count;
   pooled = are.pooled;
+  lawful = are.lawful;
   since = are.since;
 })
 

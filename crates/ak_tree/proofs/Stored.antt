@@ -10,16 +10,23 @@ use Rattle.ak_host.specs.Moments.{HostState, LeavesNow}
 use Rattle.ak_image.specs.Blocks.{seen_in, HasVolumes}
 use Rattle.ak_image.specs.Images.{IsSound, StandsFor}
 use Rattle.ak_image.specs.Laid.{IsLaid}
+use Rattle.ak_image.specs.Planted.{ArePlanted}
 use Rattle.ak_image.proofs.Agreeing.{laid_agree}
-use Rattle.ak_image.proofs.Standing.{laid_image}
+use Rattle.ak_image.proofs.Standing.{laid_image, sound_laid}
 use Rattle.ak_image.proofs.StepLaid.{ordinal_laid}
+use Rattle.ak_levels.specs.Pending.{Lists}
 use Rattle.ak_meta.specs.Contents.{Content, IsMeta}
 use Rattle.ak_record.specs.Records.{frame_for, HasNewest, Rests}
 use Rattle.ak_volumes.specs.Ordinals.{ordinal_of, index_of, switched}
 use Rattle.ak_world.specs.Leaves.{Leaf}
 use Rattle.ak_world.specs.Steps.{is_full}
+use Rattle.ak_world.specs.Valid.{AreOpenable}
 use Rattle.ak_world.specs.Views.{View}
-use Rattle.ak_tree.specs.Storing.{IsStored, LeavesSaved}
+use Rattle.ak_world.specs.Worlds.{world_of, content_now, kept_now}
+use Rattle.ak_world.proofs.Opened.{opened_content, opened_kept}
+use Rattle.ak_tree.specs.Standing.{bases_of}
+use Rattle.ak_tree.specs.Storing.{IsStored, IsLeftOf, LeavesSaved}
+use Rattle.ak_tree.proofs.Planted.{all_same, all_switched}
 
 -- the view that follows
 abbrev pub view_behind : View → Content → List (List Leaf) → View
@@ -51,7 +58,27 @@ laid_by_volumes old new c kept rules same laid =
 
 -- ---- A stored view
 
-module _ (last : View) (c : Content) (kept : List (List Leaf)) (file : ℕ) (host : HostState) (stored : IsStored last c kept file host) where
+-- the view that a store is opened with, where what waits belongs to its blocks
+pub stored_first : (view : View) (bases : List ℕ) (levels : List Lists) (file : ℕ) (host : HostState) → IsMeta view.content → IsLaid (seen_in view.content.limits.volumes host.files) view.content view.kept
+    → ArePlanted view.content.ordinals (seen_in view.content.limits.volumes host.files) 0 view.content.series view.kept bases levels → ((disk : Files) → LeavesNow host disk → IsLeftOf view file host.files disk)
+    → IsStored view view.content view.kept bases levels file host
+stored_first view bases levels file host rules laid planted left = record { rules_are = rules; limits_are = refl; laid = laid; planted = planted; saved = laid; left = left }
+
+-- the same of a sound image that stands for it
+pub stored_sound : (view : View) (bases : List ℕ) (levels : List Lists) (file : ℕ) (host : HostState) → IsSound host.files → StandsFor view host.files
+    → ArePlanted view.content.ordinals (seen_in view.content.limits.volumes host.files) 0 view.content.series view.kept bases levels → ((disk : Files) → LeavesNow host disk → IsLeftOf view file host.files disk)
+    → IsStored view view.content view.kept bases levels file host
+stored_sound view bases levels file host sound stands planted left =
+    stored_first view bases levels file host stands.rules_are (sound_laid host.files view sound stands).1 planted left
+
+-- and so the store holds what the view did
+pub opened_stored : (view : View) (levels : List Lists) (file : ℕ) (host : HostState) → IsMeta view.content → AreOpenable view.content.ordinals.lo view.content.series view.kept
+    → IsStored view view.content view.kept (bases_of (world_of view)) levels file host → IsStored view (content_now (world_of view)) (kept_now (world_of view)) (bases_of (world_of view)) levels file host
+opened_stored view levels file host rules openable stored =
+    subst (λ (c : Content). IsStored view c (kept_now (world_of view)) (bases_of (world_of view)) levels file host) (sym (opened_content view rules openable))
+    (subst (λ (kept : List (List Leaf)). IsStored view view.content kept (bases_of (world_of view)) levels file host) (sym (opened_kept view openable)) stored)
+
+module _ (last : View) (c : Content) (kept : List (List Leaf)) (bases : List ℕ) (levels : List Lists) (file : ℕ) (host : HostState) (stored : IsStored last c kept bases levels file host) where
   -- the last view, as the disk reads
   pub last_laid : IsLaid (seen_in last.content.limits.volumes host.files) last.content last.kept
   last_laid = subst (λ (limits : Limits). IsLaid (seen_in limits.volumes host.files) last.content last.kept) (sym stored.limits_are) stored.saved
@@ -110,7 +137,7 @@ module _ (last : View) (c : Content) (kept : List (List Leaf)) (file : ℕ) (hos
     -- once it is saved, whatever file is written next
     pub stored_next : (next : ℕ) (new : HostState) → SameElsewhere host.files new.files
         → ((disk : Files) → LeavesNow new disk → IsSavedOver file host disk × HasNewest c.limits.slot (Some (frame_for (last.number + 1) c)) disk)
-        → IsStored (view_behind last c kept) c kept next new
+        → IsStored (view_behind last c kept) c kept bases levels next new
     stored_next next new elsewhere saved =
         let reads = elsewhere_same c.limits.volumes host.files new.files elsewhere in
         let laid = laid_by_volumes host.files new.files c kept rules reads stored.laid in
@@ -120,6 +147,8 @@ module _ (last : View) (c : Content) (kept : List (List Leaf)) (file : ℕ) (hos
           rules_are = rules;
           limits_are = refl;
           laid = laid;
+          planted = all_same c.ordinals (seen_in c.limits.volumes host.files) (seen_in c.limits.volumes new.files) 0 c.series kept bases levels
+              (seen_same c.limits.volumes host.files new.files (omega (arith, rules.limits_are.volumes_least)) reads) stored.planted;
           saved = laid;
           left = λ disk left. record {
             newest = (saved disk left).1;
@@ -130,11 +159,12 @@ module _ (last : View) (c : Content) (kept : List (List Leaf)) (file : ℕ) (hos
         }
 
     -- an ordinal that begins in no other's place
-    pub stored_switched : is_full c.ordinals ≡ false → IsStored last (record c { ordinals = switched c.ordinals }) kept file host
+    pub stored_switched : is_full c.ordinals ≡ false → IsStored last (record c { ordinals = switched c.ordinals }) kept bases levels file host
     stored_switched free = record {
       rules_are = stored.rules_are;
       limits_are = stored.limits_are;
       laid = ordinal_laid (seen_in c.limits.volumes host.files) c kept rules free stored.laid;
+      planted = all_switched c (seen_in c.limits.volumes host.files) 0 kept bases levels free stored.planted;
       saved = stored.saved;
       left = stored.left;
     }

@@ -4,7 +4,7 @@ use Rattle.std.specs.Prelude.{if◌then◌else◌}
 use Rattle.std.specs.Result.{IsErrAnd}
 use Rattle.ak_base.specs.declared.stop.Stop.{Stop}
 use Rattle.ak_base.specs.declared.stop.Stop.TheVariants.{Usage, Damaged, Disk, Port, Memory, Budget, Worn, NoStore, Exists}
-use Rattle.ak_tree.specs.Stops.{IsWornAt, IsWornBy, OnWorn}
+use Rattle.ak_tree.specs.Stops.{IsWornAt, IsWornBy, OnWorn, OnMemory}
 use Rattle.ak_volumes.specs.Ordinals.{Ordinals, newest, newest_fill}
 use Rattle.ak_world.specs.Steps.{unless_worn, entered}
 use Rattle.ak_world.specs.Worlds.{World}
@@ -24,14 +24,62 @@ worn_by T Budget follows p = tt
 worn_by T NoStore follows p = tt
 worn_by T Exists follows p = tt
 
+-- any of them
+pub worn_here : {Q : Stop → Type 0} (stop : Stop) → ((s : Stop) → Q s) → OnWorn {T = Unit {0}} (Err stop) Q
+worn_here (Worn ordinal fill number) holds = holds (Worn ordinal fill number)
+worn_here Disk holds = tt
+worn_here Memory holds = tt
+worn_here Usage holds = tt
+worn_here (Damaged file block) holds = tt
+worn_here Port holds = tt
+worn_here Budget holds = tt
+worn_here NoStore holds = tt
+worn_here Exists holds = tt
+
 pub worn_weaker : {T : Type 0} {P Q : Stop → Type 0} (r : Result T Stop) → ((s : Stop) → P s → Q s) → OnWorn r P → OnWorn r Q
 worn_weaker (Ok v) follows p = tt
 worn_weaker {T = T} (Err e) follows p = worn_by T e follows p
+
+-- what two clauses say of the stop
+both_by : (T : Type 0) {P Q R : Stop → Type 0} (stop : Stop) → ((s : Stop) → P s → Q s → R s) → OnWorn {T = T} (Err stop) P → OnWorn {T = T} (Err stop) Q → OnWorn {T = T} (Err stop) R
+both_by T (Worn ordinal fill number) follows p q = follows (Worn ordinal fill number) p q
+both_by T Disk follows p q = tt
+both_by T Memory follows p q = tt
+both_by T Usage follows p q = tt
+both_by T (Damaged file block) follows p q = tt
+both_by T Port follows p q = tt
+both_by T Budget follows p q = tt
+both_by T NoStore follows p q = tt
+both_by T Exists follows p q = tt
+
+pub worn_both : {T : Type 0} {P Q R : Stop → Type 0} (r : Result T Stop) → ((s : Stop) → P s → Q s → R s) → OnWorn r P → OnWorn r Q → OnWorn r R
+worn_both (Ok v) follows p q = tt
+worn_both {T = T} (Err e) follows p q = both_by T e follows p q
 
 -- where a stop is handed on
 pub worn_from : {T : Type 0} {P Q : Stop → Type 0} (r : Result T Stop) (stop : Stop) → IsErrAnd r (λ e. e ≡ stop) → ((s : Stop) → P s → Q s) → OnWorn {T = T} (Err stop) P → OnWorn r Q
 worn_from (Ok v) stop err follows p = absurd err
 worn_from {T = T} {P = P} (Err e) stop same follows p = worn_by T e follows (subst (λ (x : Stop). OnWorn {T = T} (Err x) P) (sym same) p)
+
+-- the same of stops for want of memory
+memory_by : (T : Type 0) {P Q : Type 0} (stop : Stop) → (P → Q) → OnMemory {T = T} (Err stop) P → OnMemory {T = T} (Err stop) Q
+memory_by T Memory follows p = follows p
+memory_by T (Worn ordinal fill number) follows p = tt
+memory_by T Disk follows p = tt
+memory_by T Usage follows p = tt
+memory_by T (Damaged file block) follows p = tt
+memory_by T Port follows p = tt
+memory_by T Budget follows p = tt
+memory_by T NoStore follows p = tt
+memory_by T Exists follows p = tt
+
+pub memory_weaker : {T P Q : Type 0} (r : Result T Stop) → (P → Q) → OnMemory r P → OnMemory r Q
+memory_weaker (Ok v) follows p = tt
+memory_weaker {T = T} (Err e) follows p = memory_by T e follows p
+
+pub memory_from : {T P Q : Type 0} (r : Result T Stop) (stop : Stop) → IsErrAnd r (λ e. e ≡ stop) → (P → Q) → OnMemory {T = T} (Err stop) P → OnMemory r Q
+memory_from (Ok v) stop err follows p = absurd err
+memory_from {T = T} {P = P} (Err e) stop same follows p = memory_by T e follows (subst (λ (x : Stop). OnMemory {T = T} (Err x) P) (sym same) p)
 
 -- ---- Worlds
 

@@ -1,5 +1,5 @@
 -- How a forest keeps its world where leaves are entered and points put.
-use Rattle.std.proofs.Common.{◌≡◌, ℕ, ◌+◌, ◌<◌, ◌≤◌, [], ◌∷◌, ◌++◌, length, get_or, slice_set, Some, None, sym, subst}
+use Rattle.std.proofs.Common.{◌≡◌, ℕ, ◌+◌, ◌<◌, ◌≤◌, [], ◌∷◌, ◌++◌, length, get_or, slice_set, Some, None, refl, sym, subst}
 use Rattle.std.specs.Prelude.{IfSome}
 use Rattle.ak_base.specs.Points.{IsPoint, last_ts_from}
 use Rattle.ak_base.specs.declared.point.Point.{Point}
@@ -23,8 +23,8 @@ pub entered_keeps : (w : World) (f new : Trees) (n others : ℕ) (frame : Frame)
     → Keeps (entered w n (group_of w n)) new
 entered_keeps w f new n others frame are keeps within is top room meta pool frames check since =
     subst (Keeps (entered w n (group_of w n)))
-    (sym (trees_are new (meta_entered f.meta n (leaf_of f.pool.used frame.0) others) (frames_of f.pool.count (without f.pool.used frame.0)) (slice_set f.frames n None) f.check (f.since + 1) meta pool frames check since))
-    (keeps_entered w f n frame others are keeps is top room)
+    (sym (trees_are new (meta_entered f.meta n (leaf_of f.pool.used frame.0) others) (frames_of f.pool.count (without f.pool.used frame.0)) (slice_set f.frames n None) new.levels f.check (f.since + 1) meta pool frames refl check since))
+    (keeps_entered w f n frame others new.levels are keeps is top room)
 
 -- a point is put behind those of the open leaf of a series
 pub extended_keeps : (w : World) (f : Trees) (n : ℕ) (p : Point) (frame : Frame) → AreTrees f → Keeps w f → n < length f.meta.series → get_or f.frames n None ≡ Some frame → IsPoint p → IfSome (last_known f n) (λ last. last ≤ p.ts)

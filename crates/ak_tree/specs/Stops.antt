@@ -7,11 +7,11 @@ use Rattle.ak_host.specs.Moments.{HostState}
 use Rattle.ak_volumes.specs.Ordinals.{newest, newest_fill}
 use Rattle.ak_world.specs.Worlds.{World}
 
--- A call of the disk failed, or the store is worn. At this stage no memory is taken.
+-- A call of the disk failed, the store is worn, or there is no memory.
 abbrev pub IsTreeStop : HostState → HostState → Stop → Type 0
 IsTreeStop old new Disk = Rose old.disk_faults new.disk_faults
 IsTreeStop old new (Worn ordinal fill number) = Unit {0}
-IsTreeStop old new Memory = ⊥
+IsTreeStop old new Memory = Unit {0}
 IsTreeStop old new Usage = ⊥
 IsTreeStop old new (Damaged file block) = ⊥
 IsTreeStop old new Port = ⊥
@@ -62,3 +62,16 @@ OnWorn (Err Port) P = Unit {0}
 OnWorn (Err Budget) P = Unit {0}
 OnWorn (Err NoStore) P = Unit {0}
 OnWorn (Err Exists) P = Unit {0}
+
+-- where it stops for want of memory, P
+abbrev pub OnMemory : {T : Type 0} → Result T Stop → Type 0 → Type 0
+OnMemory (Ok v) P = Unit {0}
+OnMemory (Err Memory) P = P
+OnMemory (Err (Worn ordinal fill number)) P = Unit {0}
+OnMemory (Err Disk) P = Unit {0}
+OnMemory (Err Usage) P = Unit {0}
+OnMemory (Err (Damaged file block)) P = Unit {0}
+OnMemory (Err Port) P = Unit {0}
+OnMemory (Err Budget) P = Unit {0}
+OnMemory (Err NoStore) P = Unit {0}
+OnMemory (Err Exists) P = Unit {0}

@@ -5,6 +5,8 @@ use Rattle.ak_host.specs.Moments.{HostState, LeavesNow}
 use Rattle.ak_image.specs.Blocks.{seen_in, HasVolumes}
 use Rattle.ak_image.specs.Images.{IsSound, StandsFor}
 use Rattle.ak_image.specs.Laid.{IsLaid}
+use Rattle.ak_image.specs.Planted.{ArePlanted}
+use Rattle.ak_levels.specs.Pending.{Lists}
 use Rattle.ak_meta.specs.Contents.{Content, IsMeta}
 use Rattle.ak_record.specs.Records.{frame_for, HasNewest}
 use Rattle.ak_volumes.specs.Ordinals.{IsLive}
@@ -20,12 +22,13 @@ pub record IsLeftOf (last : View) (file : ℕ) (files disk : Files) : Type 0 whe
   pub same : (a : ℕ) → IsLive last.content.ordinals a → seen_in last.content.limits.volumes disk a ≡ seen_in last.content.limits.volumes files a
   pub still : (other : ℕ) → 1 ≤ other → other ≤ last.content.limits.volumes → other ≢ file → file_at disk other ≡ file_at files other
 
--- The disk holds this content with these leaves, and whatever a stop leaves stands for the last view. Since that view only
--- this file was written.
-pub record IsStored (last : View) (c : Content) (kept : List (List Leaf)) (file : ℕ) (host : HostState) : Type 0 where
+-- The disk holds this content with these leaves, as far as what waits in memory belongs to it, and whatever a stop leaves
+-- stands for the last view. Since that view only this file was written.
+pub record IsStored (last : View) (c : Content) (kept : List (List Leaf)) (bases : List ℕ) (levels : List Lists) (file : ℕ) (host : HostState) : Type 0 where
   pub rules_are : IsMeta last.content
   pub limits_are : last.content.limits ≡ c.limits
   pub laid : IsLaid (seen_in c.limits.volumes host.files) c kept
+  pub planted : ArePlanted c.ordinals (seen_in c.limits.volumes host.files) 0 c.series kept bases levels
   pub saved : IsLaid (seen_in c.limits.volumes host.files) last.content last.kept
   pub left : (disk : Files) → LeavesNow host disk → IsLeftOf last file host.files disk
 

@@ -1,13 +1,14 @@
 //! Accepts points.
-ghost use Rattle.std.specs.Prelude.{◌≡◌, ◌≢◌, ◌<◌, ◌≤◌, ◌++◌, ◌∷◌, ◌↔◌, [], ℕ, suc, length, get_or, None, Some, slice_set, true, OnOk, IfSome, IsTrue, IsFalse};
+ghost use Rattle.std.specs.Prelude.{◌≡◌, ◌≢◌, ◌<◌, ◌≤◌, ◌++◌, ◌∷◌, ◌↔◌, [], ℕ, List, suc, length, get_or, None, Some, slice_set, true, OnOk, IfSome, IsTrue, IsFalse};
 ghost use Rattle.ak_host.specs.Moments.{DiskPasses};
 ghost use Rattle.ak_leaf.specs.Spelling.{leaf_size};
 ghost use Rattle.ak_meta.specs.Contents.{names_of};
-ghost use Rattle.ak_pool.specs.Frames.{frames_of, used_frame, leaf_of, moved_first, with_leaf};
+ghost use Rattle.ak_pool.specs.Frames.{Used, frames_of, used_frame, leaf_of, moved_first, with_leaf};
 ghost use Rattle.ak_pool.specs.declared.pool.Frame.{Frame};
 ghost use Rattle.ak_tree.specs.Later.{Becomes};
-ghost use Rattle.ak_tree.specs.Standing.{Holds, IsReady, last_known};
-ghost use Rattle.ak_tree.specs.Stops.{HasTreeStops, OnWorn, IsWornBy};
+ghost use Rattle.ak_meta.specs.Leaves.{leaves_at};
+ghost use Rattle.ak_tree.specs.Standing.{Holds, KeepsWorn, IsReady, IsClosedFor, OpensLevel, last_known};
+ghost use Rattle.ak_tree.specs.Stops.{HasTreeStops, OnMemory, OnWorn, IsWornBy};
 ghost use Rattle.ak_tree.specs.Storing.{LeavesView};
 ghost use Rattle.ak_world.specs.Steps.{accepted, added, closed, in_time, made_room, oldest, unless_worn};
 ghost use Rattle.ak_world.specs.Worlds.{World};
@@ -63,6 +64,8 @@ impl Forest {
         requires ready { IsReady D.tells self.old (D.state disk.old) }
         requires some { self.old.pool.used ≢ [] }
         ensures stops { HasTreeStops (D.state disk.old) (D.state disk.new) result }
+        ensures memory { OnMemory result ((front : List Used) × (last : Used) × (self.old.pool.used ≡ front ++ last ∷ []) × OpensLevel (leaves_at self.old.meta.series last.series)) }
+        ensures kept { OnMemory result ((self.new ≡ self.old) × (disk.new ≡ disk.old)) }
         ensures ready { OnOk result (IsReady D.tells self.new (D.state disk.new)) }
         ensures names { names_of self.new.meta.series ≡ names_of self.old.meta.series }
         ensures limits { self.new.meta.limits ≡ self.old.meta.limits }
@@ -72,6 +75,8 @@ impl Forest {
         ensures last { (n : ℕ) → OnOk result (last_known self.new n ≡ last_known self.old n) }
         ensures reads { D.tells → (D.state disk.new).reads ≡ (D.state disk.old).reads }
         ensures worn { D.tells → (w : World) → Holds w self.old (D.state disk.old) → OnWorn result (IsWornBy (closed w (oldest w.recent))) }
+        // The steps that came before it stand.
+        ensures left { D.tells → (w : World) → Holds w self.old (D.state disk.old) → OnWorn result (λ stop. KeepsWorn (closed w (oldest w.recent)) self.new) }
         ensures after { D.tells → (w : World) → Holds w self.old (D.state disk.old) → OnOk result (Holds (closed w (oldest w.recent)) self.new (D.state disk.new)) }
         ensures passes { D.tells → DiskPasses (λ left. Unit {0}) (D.state disk.old) (D.state disk.new) }
         ensures moments { D.tells → (w : World) → Holds w self.old (D.state disk.old)
@@ -88,6 +93,7 @@ impl Forest {
     fn view_in_time<D: Disk>(&mut self, disk: &mut D) -> Result<(), Stop>
         requires ready { IsReady D.tells self.old (D.state disk.old) }
         ensures stops { HasTreeStops (D.state disk.old) (D.state disk.new) result }
+        ensures no_memory { OnMemory result ⊥ }
         ensures ready { OnOk result (IsReady D.tells self.new (D.state disk.new)) }
         ensures names { names_of self.new.meta.series ≡ names_of self.old.meta.series }
         ensures limits { self.new.meta.limits ≡ self.old.meta.limits }
@@ -95,6 +101,8 @@ impl Forest {
         ensures last { (n : ℕ) → OnOk result (last_known self.new n ≡ last_known self.old n) }
         ensures reads { D.tells → (D.state disk.new).reads ≡ (D.state disk.old).reads }
         ensures worn { D.tells → (w : World) → Holds w self.old (D.state disk.old) → OnWorn result (IsWornBy (in_time w)) }
+        // The steps that came before it stand.
+        ensures left { D.tells → (w : World) → Holds w self.old (D.state disk.old) → OnWorn result (λ stop. KeepsWorn (in_time w) self.new) }
         ensures after { D.tells → (w : World) → Holds w self.old (D.state disk.old) → OnOk result (Holds (in_time w) self.new (D.state disk.new)) }
         ensures passes { D.tells → DiskPasses (λ left. Unit {0}) (D.state disk.old) (D.state disk.new) }
         ensures moments { D.tells → (w : World) → Holds w self.old (D.state disk.old)
@@ -120,6 +128,8 @@ impl Forest {
         requires none { get_or self.old.frames series None ≡ None }
         requires not_late { IfSome (last_known self.old series) (λ last. last ≤ p.ts) }
         ensures stops { HasTreeStops (D.state disk.old) (D.state disk.new) result }
+        ensures memory { OnMemory result ((n : ℕ) × IsClosedFor self.old series p n × OpensLevel (leaves_at self.old.meta.series n)) }
+        ensures kept { OnMemory result ((self.new ≡ self.old) × (disk.new ≡ disk.old)) }
         ensures ready { OnOk result (IsReady D.tells self.new (D.state disk.new)) }
         ensures names { names_of self.new.meta.series ≡ names_of self.old.meta.series }
         ensures limits { self.new.meta.limits ≡ self.old.meta.limits }
@@ -127,6 +137,8 @@ impl Forest {
         ensures last { (n most : ℕ) → p.ts ≤ most → IfSome (last_known self.old n) (λ last. last ≤ most) → OnOk result (IfSome (last_known self.new n) (λ last. last ≤ most)) }
         ensures reads { D.tells → (D.state disk.new).reads ≡ (D.state disk.old).reads }
         ensures worn { D.tells → (w : World) → Holds w self.old (D.state disk.old) → OnWorn result (IsWornBy (unless_worn (unless_worn w (made_room series)) (added series p))) }
+        // The steps that came before it stand.
+        ensures left { D.tells → (w : World) → Holds w self.old (D.state disk.old) → OnWorn result (λ stop. KeepsWorn (unless_worn (unless_worn w (made_room series)) (added series p)) self.new) }
         ensures after { D.tells → (w : World) → Holds w self.old (D.state disk.old)
             → OnOk result (Holds (unless_worn (unless_worn w (made_room series)) (added series p)) self.new (D.state disk.new)) }
         ensures passes { D.tells → DiskPasses (λ left. Unit {0}) (D.state disk.old) (D.state disk.new) }
@@ -158,6 +170,9 @@ impl Forest {
         requires known { series < length self.old.meta.series }
         requires not_late { IfSome (last_known self.old series) (λ last. last ≤ p.ts) }
         ensures stops { HasTreeStops (D.state disk.old) (D.state disk.new) result }
+        // Memory is asked for only where a leaf is closed that opens a level, and before anything is done.
+        ensures memory { OnMemory result ((n : ℕ) × IsClosedFor self.old series p n × OpensLevel (leaves_at self.old.meta.series n)) }
+        ensures kept { OnMemory result ((self.new ≡ self.old) × (disk.new ≡ disk.old)) }
         ensures ready { OnOk result (IsReady D.tells self.new (D.state disk.new)) }
         ensures names { names_of self.new.meta.series ≡ names_of self.old.meta.series }
         ensures limits { self.new.meta.limits ≡ self.old.meta.limits }
@@ -166,6 +181,8 @@ impl Forest {
         ensures last { (n most : ℕ) → p.ts ≤ most → IfSome (last_known self.old n) (λ last. last ≤ most) → OnOk result (IfSome (last_known self.new n) (λ last. last ≤ most)) }
         ensures reads { D.tells → (D.state disk.new).reads ≡ (D.state disk.old).reads }
         ensures worn { D.tells → (w : World) → Holds w self.old (D.state disk.old) → OnWorn result (IsWornBy (accepted w series p)) }
+        // The steps that came before it stand.
+        ensures left { D.tells → (w : World) → Holds w self.old (D.state disk.old) → OnWorn result (λ stop. KeepsWorn (accepted w series p) self.new) }
         ensures after { D.tells → (w : World) → Holds w self.old (D.state disk.old) → OnOk result (Holds (accepted w series p) self.new (D.state disk.new)) }
         ensures passes { D.tells → DiskPasses (λ left. Unit {0}) (D.state disk.old) (D.state disk.new) }
         ensures moments { D.tells → (w : World) → Holds w self.old (D.state disk.old)
@@ -177,6 +194,8 @@ impl Forest {
             }
             self.close_leaf(alloc, disk, series)?;
         }
+        // Where a leaf was closed one of the frames is free, and no other leaf is closed.
+        let _ = &self.pool;
         self.begin(alloc, disk, series, p)?;
         self.view_in_time(disk)
     }

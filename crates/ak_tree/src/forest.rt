@@ -3,11 +3,14 @@ ghost use Rattle.std.specs.Prelude.{◌≡◌, ◌+◌, ◌-◌, ◌*◌, ◌<�
 ghost use Rattle.std.specs.List.{list_any};
 ghost use Rattle.ak_base.specs.Points.{last_ts_from};
 ghost use Rattle.ak_meta.specs.Contents.{IsMeta, IsCanonical, size_of, names_of};
-ghost use Rattle.ak_meta.specs.Leaves.{with_series};
+ghost use Rattle.ak_image.specs.Planted.{AreAllLawful};
+ghost use Rattle.ak_levels.specs.Entries.{AreLawful};
+ghost use Rattle.ak_levels.specs.Pending.{no_lists};
+ghost use Rattle.ak_meta.specs.Leaves.{with_series, leaves_at};
 ghost use Rattle.ak_pool.specs.Frames.{frames_of};
 ghost use Rattle.ak_tree.specs.Adding.{IsAddError};
 ghost use Rattle.ak_tree.specs.Later.{Becomes};
-ghost use Rattle.ak_tree.specs.Standing.{AreTrees, Keeps, last_known, leaf_in};
+ghost use Rattle.ak_tree.specs.Standing.{AreTrees, Keeps, levels_at, last_known, leaf_in};
 ghost use Rattle.ak_world.specs.Valid.{AreOpenable};
 ghost use Rattle.ak_world.specs.Puts.{with_name};
 ghost use Rattle.ak_world.specs.Steps.{last_at, written_in};
@@ -17,6 +20,7 @@ ghost use Rattle.ak_world.specs.Worlds.{World, world_of};
 use ak_base::{Point, Text};
 use ak_checkpoint::Checkpoint;
 use ak_leaf::LeafBuf;
+use ak_levels::{Entry, Levels, LevelsList};
 use ak_meta::Meta;
 use ak_pool::{Frame, Pool};
 use ak_volumes::Volumes;
@@ -44,6 +48,7 @@ pub struct Forest {
     pub(crate) meta: Meta,
     pub(crate) pool: Pool,
     pub(crate) frames: Vec<Option<Frame>>,
+    pub(crate) levels: LevelsList,
     pub(crate) check: Checkpoint,
     pub(crate) since: u64,
 }
@@ -53,9 +58,9 @@ impl Model for Forest {
 
     ghost Value = { Trees };
 
-    ghost view = { λ f. trees f.meta f.pool f.frames.items f.check f.since };
+    ghost view = { λ f. trees f.meta f.pool f.frames.items f.levels f.check f.since };
 
-    ghost invariant = { λ f. AreTrees (trees f.meta f.pool f.frames.items f.check f.since) };
+    ghost invariant = { λ f. AreTrees (trees f.meta f.pool f.frames.items f.levels f.check f.since) };
 }
 
 /// The time of the last of these points; 0 where there are none.
@@ -69,12 +74,19 @@ pub(crate) fn last_of(points: &[Point]) -> u64
 }
 
 impl Forest {
-    /// The forest of a view, with all its frames. No series has an open leaf.
-    pub fn new(alloc: Global, meta: Meta, check: Checkpoint) -> Result<Forest, AllocError>
+    /// The forest of a view, with all its frames, and what waits of each series. No series has an open leaf.
+    pub fn new(
+        alloc: Global,
+        meta: Meta,
+        levels: LevelsList,
+        check: Checkpoint,
+    ) -> Result<Forest, AllocError>
         requires rules { IsMeta meta }
         requires room { 16 + size_of meta ≤ 4096 * meta.limits.slot }
         requires slot { check.gate.slot ≡ meta.limits.slot }
+        requires lawful { AreAllLawful meta.series levels }
         ensures meta { IfOk result (λ f. f.meta ≡ meta) }
+        ensures levels { IfOk result (λ f. f.levels ≡ levels) }
         ensures check { IfOk result (λ f. f.check ≡ check) }
         ensures since { IfOk result (λ f. f.since ≡ 0) }
         ensures pool { IfOk result (λ f. f.pool ≡ frames_of meta.limits.pool []) }
@@ -91,6 +103,7 @@ impl Forest {
             meta,
             pool,
             frames,
+            levels,
             check,
             since: 0,
         })
@@ -101,7 +114,7 @@ impl Forest {
     pub fn add(&mut self, alloc: Global, name: &Text) -> Result<u32, AddError>
         requires canonical { IsCanonical name.now }
         requires new { list_any (λ n. bytes_eq name.now n) (names_of self.old.meta.series) ≡ false }
-        ensures ok { OnOk result (self.new ≡ record self.old { meta = with_series self.old.meta name.now; frames = self.old.frames ++ None ∷ [] }) }
+        ensures ok { OnOk result (self.new ≡ record self.old { meta = with_series self.old.meta name.now; frames = self.old.frames ++ None ∷ []; levels = self.old.levels ++ no_lists ∷ [] }) }
         ensures becomes { OnOk result (Becomes self.old.meta self.new.meta) }
         ensures number { IfOk result (λ n. n ≡ length self.old.meta.series) }
         ensures few { IfOk result (λ n. n < 2 ^ 32 - 1) }
@@ -115,7 +128,7 @@ impl Forest {
         if need > room {
             return Err(AddError::Full { need, room });
         }
-        if let Err(_) = self.frames.try_reserve(1) {
+        if self.frames.try_reserve(1).is_err() || self.levels.push(alloc, Levels::new()).is_err() {
             return Err(AddError::Memory);
         }
         match self.meta.add(alloc, name) {
@@ -123,7 +136,10 @@ impl Forest {
                 self.frames.push(None).unwrap();
                 Ok(number)
             }
-            Err(_) => Err(AddError::Memory),
+            Err(_) => {
+                self.levels.pop();
+                Err(AddError::Memory)
+            }
         }
     }
 
@@ -169,6 +185,24 @@ impl Forest {
         match self.frames[series as usize] {
             Some(frame) => Some(self.pool.leaf(frame)),
             None => None,
+        }
+    }
+
+    /// What a query sees of a series.
+    pub fn entry(&self, series: u32) -> Entry<'_>
+        requires { series < length self.now.meta.series }
+        ensures series { result.series ≡ series }
+        ensures leaves { result.leaves ≡ leaves_at self.now.meta.series series }
+        ensures levels { result.levels.now ≡ levels_at self.now series }
+        ensures tail { MatchOption result.tail (get_or self.now.frames series None ≡ None) (λ leaf. leaf.now ≡ leaf_in self.now.pool (get_or self.now.frames series None)) }
+        ensures lawful { AreLawful (leaves_at self.now.meta.series series) (levels_at self.now series) }
+        ensures most { leaves_at self.now.meta.series series ≤ 2 ^ 52 }
+    {
+        Entry {
+            series,
+            leaves: self.meta.series()[series as usize].leaves,
+            levels: &self.levels.as_slice()[series as usize],
+            tail: self.open_leaf(series),
         }
     }
 

@@ -1,9 +1,9 @@
 use Rattle.std.proofs.Common.{ℕ, ◌≡◌, ◌∙◌, ◌+◌, ◌++◌, ◌∷◌, [], List, drop, bytes_eq, true, false, sym, ap, append_assoc}
 use Rattle.std.specs.List.{list_any}
 use Rattle.ak_meta.specs.Contents.{names_of}
-use Rattle.ak_node.specs.Names.{with_all}
+use Rattle.ak_node.specs.Names.{with_all, levels_with}
 use Rattle.ak_node.proofs.Looking.{knows, names_more}
-use Rattle.ak_node.proofs.Adding.{forest_next, room_next, next_new, next_known, last_stays, known_next, added_next, known_added, new_added, all_added, is_new, is_among}
+use Rattle.ak_node.proofs.Adding.{forest_next, room_next, next_new, next_known, levels_new, levels_known, last_stays, known_next, added_next, known_added, new_added, all_added, is_new, is_among}
 use Rattle.ak_tree.specs.Standing.{Trees}
 use Rattle.ak_node.proofs.puts.add_names.Goals.{then-is_none+in_ok-add_name, else-is_none}
 use Rattle.ak_node.proofs.puts.add_names.Goals as goal
@@ -37,6 +37,8 @@ loop-name-preserved c =
             longer = (before.longer.0 ++ name ∷ [], put.index ∙ ap (λ (ns : List (List ℕ)). ns ++ name ∷ []) before.longer.1 ∙ append_assoc first.names before.longer.0 (name ∷ []));
             known = added_next now.names new.names names i name _ c.loop-name-test.true c.name-item.is put.index before.known;
             rest = ap (λ (t : Trees). with_all t.meta (drop (i + 1) names)) put.forest ∙ next_new now.forest.meta first.forest.meta names i name _ c.loop-name-test.true c.name-item.is other before.rest;
+            waits = ap (λ (t : Trees). levels_with t.meta t.levels (drop (i + 1) names)) put.forest
+                ∙ levels_new now.forest.meta first.forest.meta now.forest.levels first.forest.levels names i name _ c.loop-name-test.true c.name-item.is other before.waits;
             forest = forest_next first.forest now.forest new.forest name put.forest before.forest;
             limits = ap (λ (t : Trees). t.meta.limits) put.forest ∙ before.limits;
             last = λ n. last_stays now.forest new.forest name n put.forest ∙ before.last n;
@@ -52,6 +54,7 @@ loop-name-preserved c =
             longer = before.longer;
             known = known_next now.names names i name _ c.loop-name-test.true c.name-item.is here before.known;
             rest = next_known now.forest.meta first.forest.meta names i name _ c.loop-name-test.true c.name-item.is some before.rest;
+            waits = levels_known now.forest.meta first.forest.meta now.forest.levels first.forest.levels names i name _ c.loop-name-test.true c.name-item.is some before.waits;
             forest = before.forest;
             limits = before.limits;
             last = before.last;

@@ -10,7 +10,7 @@ use Rattle.ak_world.specs.Puts.{named}
 use Rattle.ak_world.specs.Worlds.{World}
 use Rattle.std.specs.Result.{is_err}
 use Rattle.ak_tree.specs.Later.{Becomes}
-use Rattle.ak_node.specs.Names.{with_all}
+use Rattle.ak_node.specs.Names.{with_all, levels_with}
 use Rattle.ak_node.specs.declared.keeper.Keeper.{Keeper}
 use Rattle.ak_node.proofs.Adding.{becomes_all}
 use Rattle.ak_node.proofs.Stopping.{stops_of}
@@ -103,7 +103,7 @@ returns-clause-moments g c told content holds =
     put_passes content c.args.names.now _ _ (g.D.Outside.state c.args.disk.now) (g.D.Outside.state c.accept_all.new.disk) all (c.accept_all.ensures.moments told (named content c.args.names.now) held)
 
 added : {T E : Type 0} (r : Result T E) (is : Bool) (old new : Keeper) (names : List (List ℕ)) → is ≡ is_err r → is ≡ false
-    → OnOk r (new.forest ≡ record old.forest { meta = with_all old.forest.meta names; frames = new.forest.frames }) → Becomes old.forest.meta new.forest.meta
+    → OnOk r (new.forest ≡ record old.forest { meta = with_all old.forest.meta names; frames = new.forest.frames; levels = levels_with old.forest.meta old.forest.levels names }) → Becomes old.forest.meta new.forest.meta
 added (Ok v) is old new names value good forest = subst (λ (t : Trees). Becomes old.forest.meta t.meta) (sym forest) (becomes_all names old.forest.meta)
 added (Err e) is old new names value good forest = absurd (false≢true (sym good ∙ value))
 

@@ -4,10 +4,10 @@ use Rattle.std.specs.List.{AllByRecursion, flat_map}
 use Rattle.std.specs.Result.{IfErr}
 use Rattle.ak_base.specs.declared.point.Addr.{Addr}
 use Rattle.ak_meta.specs.declared.meta.SeriesMeta.{SeriesMeta}
-use Rattle.ak_node.proofs.Chained.{at_place, at_one, broken_in, whole_in, walked_same}
-use Rattle.ak_node.proofs.OnlyReading.{stop_from, reason_weaker}
-use Rattle.ak_node.specs.Reads.{IsReadStop}
-use Rattle.ak_node.specs.Walks.{IsAt, IsWholeIn, IsBrokenIn}
+use Rattle.ak_repair.proofs.Chained.{at_place, at_one, broken_in, whole_in, walked_same}
+use Rattle.ak_repair.proofs.OnlyReading.{stop_from, reason_weaker}
+use Rattle.ak_repair.specs.Reads.{IsReadStop}
+use Rattle.ak_repair.specs.Walks.{IsAt, IsWholeIn, IsBrokenIn}
 use Rattle.ak_run.specs.Replies.{row_text}
 use Rattle.ak_world.specs.Leaves.{Leaf, points_of}
 use Rattle.ak_volumes.specs.Ordinals.{Ordinals, IsLive}

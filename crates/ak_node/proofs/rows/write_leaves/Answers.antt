@@ -7,9 +7,9 @@ use Rattle.ak_cache.specs.Leaves.{SpellsNone}
 use Rattle.ak_image.specs.Blocks.{seen_in}
 use Rattle.ak_leaf.specs.Leaf.{SpellsLeaf}
 use Rattle.ak_meta.specs.Contents.{rescue_at}
-use Rattle.ak_node.specs.Walks.{AreWalked}
-use Rattle.ak_node.proofs.OnlyReading.{more_reads, stop_from, leaf_stop, on_ok}
-use Rattle.ak_node.proofs.Linked.{placed_in, number_in, placed_points, placed_spells, length_back}
+use Rattle.ak_repair.specs.Walks.{AreWalked}
+use Rattle.ak_repair.proofs.OnlyReading.{more_reads, stop_from, leaf_stop, on_ok}
+use Rattle.ak_repair.proofs.Linked.{placed_in, number_in, placed_points, placed_spells, length_back}
 use Rattle.ak_node.proofs.RowsOf.{rows_more}
 use Rattle.ak_run.specs.Replies.{row_text}
 use Rattle.ak_world.specs.Leaves.{Leaf, points_of}
@@ -54,7 +54,7 @@ loop-i-preserved g c =
         scratch = read.keeps.scratch ∙ so_far.keeps.scratch;
       };
       cache = read.cache ∙ so_far.cache;
-      reads = more_reads so_far.reads (record { later = read.later; port_faults = read.port_faults; sizes = read.sizes; files = read.files; moments = read.moments });
+      reads = more_reads so_far.reads (record { later = read.later; port_faults = read.port_faults; sizes = read.sizes; files = read.files; writes = read.writes; moments = read.moments });
       rows = λ told walked.
           let f = row_text c.args.scale c.args.known.now.name in
           let p = placed_in walked i back (record { 0 = 0 }) place in
@@ -80,4 +80,4 @@ returns-clause-rows g c told walked =
 pub returns-then-is_err-clause-reads : goal.returns-then-is_err-clause-reads
 returns-then-is_err-clause-reads g c =
     let read = c.in_ok-leaf.ensures in
-    more_reads c.loop-i.invariant.reads (record { later = read.later; port_faults = read.port_faults; sizes = read.sizes; files = read.files; moments = read.moments })
+    more_reads c.loop-i.invariant.reads (record { later = read.later; port_faults = read.port_faults; sizes = read.sizes; files = read.files; writes = read.writes; moments = read.moments })

@@ -3,8 +3,8 @@ use Rattle.std.specs.List.{flat_map}
 use Rattle.ak_cache.specs.Leaves.{KeepsReach}
 use Rattle.ak_image.specs.Blocks.{seen_in}
 use Rattle.ak_meta.specs.Contents.{rescue_at}
-use Rattle.ak_node.specs.Reads.{OnlyReads}
-use Rattle.ak_node.specs.Walks.{AreWalked}
+use Rattle.ak_repair.specs.Reads.{OnlyReads}
+use Rattle.ak_repair.specs.Walks.{AreWalked}
 use Rattle.ak_run.specs.Replies.{row_text}
 use Rattle.ak_world.specs.Leaves.{points_of}
 use Rattle.ak_node.proofs.rows.write_leaves.Given as goal

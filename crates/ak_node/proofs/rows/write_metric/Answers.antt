@@ -1,13 +1,14 @@
 use Rattle.std.proofs.Common.{◌≡◌, ◌∙◌, ℕ, ◌<◌, ◌++◌, List, length, take, ap, subst, arith}
 use Rattle.std.proofs.lemmas.List.{take_all}
 use Rattle.std.specs.List.{flat_map}
-use Rattle.ak_node.proofs.Chained.{at_some, as_many}
-use Rattle.ak_node.proofs.OnlyReading.{more_reads, stop_from, reason_weaker}
+use Rattle.ak_node.proofs.Chained.{as_many}
+use Rattle.ak_repair.proofs.Chained.{at_some}
+use Rattle.ak_repair.proofs.OnlyReading.{more_reads, stop_from, reason_weaker}
 use Rattle.ak_node.proofs.RowsOf.{series_more}
 use Rattle.ak_node.proofs.StillReady.{holds_still, has_stops}
 use Rattle.ak_node.specs.Calls.{IsSoundStop}
-use Rattle.ak_node.specs.Damage.{IsDamagedLeaf}
-use Rattle.ak_node.specs.Reads.{IsReadStop}
+use Rattle.ak_repair.specs.Damage.{IsDamagedLeaf}
+use Rattle.ak_repair.specs.Reads.{IsReadStop}
 use Rattle.ak_run.specs.Replies.{series_rows}
 use Rattle.ak_host.specs.Files.{Files}
 use Rattle.ak_tree.specs.Standing.{Trees}

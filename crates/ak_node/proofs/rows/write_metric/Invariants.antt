@@ -1,6 +1,6 @@
 use Rattle.std.proofs.Common.{◌≡◌, ◌++◌, take}
 use Rattle.std.specs.List.{flat_map}
-use Rattle.ak_node.specs.Reads.{OnlyReads}
+use Rattle.ak_repair.specs.Reads.{OnlyReads}
 use Rattle.ak_node.specs.Standing.{Holds}
 use Rattle.ak_run.specs.Replies.{series_rows}
 use Rattle.ak_world.specs.Worlds.{World as Store, limits_of}

@@ -3,8 +3,8 @@ use Rattle.std.proofs.lemmas.Result.{on_ok_weaker}
 use Rattle.std.specs.List.{flat_map}
 use Rattle.ak_base.specs.declared.point.Point.{Point}
 use Rattle.ak_meta.specs.declared.meta.SeriesMeta.{SeriesMeta}
-use Rattle.ak_node.proofs.Chained.{at_place, at_one}
-use Rattle.ak_node.specs.Walks.{IsAt}
+use Rattle.ak_repair.proofs.Chained.{at_place, at_one}
+use Rattle.ak_repair.specs.Walks.{IsAt}
 use Rattle.ak_run.specs.Replies.{row_text}
 use Rattle.ak_world.specs.Steps.{written_in}
 use Rattle.ak_node.proofs.rows.write_open.Goals as goal

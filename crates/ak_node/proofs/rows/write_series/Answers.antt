@@ -1,10 +1,11 @@
 use Rattle.std.proofs.Common.{◌≡◌, ◌++◌, sym, subst, arith}
 use Rattle.std.specs.List.{flat_map}
 use Rattle.ak_node.proofs.Chained.{kept_at, never_broken}
-use Rattle.ak_node.proofs.OnlyReading.{stop_from, reason_weaker, sound_read}
+use Rattle.ak_node.proofs.OnlyReading.{sound_read}
+use Rattle.ak_repair.proofs.OnlyReading.{stop_from, reason_weaker}
 use Rattle.ak_node.proofs.RowsOf.{series_written}
 use Rattle.ak_node.specs.Calls.{IsSoundStop}
-use Rattle.ak_node.specs.Walks.{IsAt, IsBrokenIn}
+use Rattle.ak_repair.specs.Walks.{IsAt, IsBrokenIn}
 use Rattle.ak_run.specs.Replies.{row_text}
 use Rattle.ak_tree.specs.Standing.{Trees, Keeps}
 use Rattle.ak_world.specs.Steps.{written_in}

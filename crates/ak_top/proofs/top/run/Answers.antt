@@ -6,8 +6,13 @@ use Rattle.ak_node.specs.Calls.{console_of}
 use Rattle.ak_top.proofs.Commands.{quiet_passes}
 use Rattle.ak_top.proofs.Missing.{open_missing}
 use Rattle.ak_top.proofs.Serving.{holds_still, keeps_none, keeps_served, quiet_served, served_from}
-use Rattle.ak_top.proofs.Stopping.{run_stops, stops_serving}
+use Rattle.ak_top.proofs.Stopping.{open_run, run_stops, stops_serving}
 use Rattle.ak_top.proofs.top.run.Goals as goal
+
+pub returns-in_err-node-clause-cause : goal.returns-in_err-node-clause-cause
+returns-in_err-node-clause-cause g c =
+    let p = err_from_is_err_and c.from_residual.result c.from_residual.ensures.1 in
+    rw (p.1, p.2) (open_run g.H.Outside.tells (g.H.Outside.state c.args.host.now) (g.H.Outside.state c.open.new.disk) c.in_err-node.field-0.0 c.in_err-node.ensures.err)
 
 pub returns-in_err-node-clause-no_store : goal.returns-in_err-node-clause-no_store
 returns-in_err-node-clause-no_store g c told none =

@@ -1,7 +1,7 @@
-use Rattle.std.proofs.Common.{sym, subst}
+use Rattle.std.proofs.Common.{sym, ap, subst}
 use Rattle.ak_host.proofs.Passing.{disk_weaker}
 use Rattle.ak_meta.proofs.Lawful.{first_lawful}
-use Rattle.ak_meta.specs.Contents.{IsMeta}
+use Rattle.ak_meta.specs.Contents.{Content, IsMeta}
 use Rattle.ak_node.proofs.Starting.{making_first, node_stands, first_holds}
 use Rattle.ak_world.specs.Views.{first_view}
 use Rattle.ak_node.proofs.node.Node.make.Goals as goal
@@ -9,8 +9,11 @@ use Rattle.ak_node.proofs.node.Node.make.Goals as goal
 pub returns-in_err-meta-clause-moments : goal.returns-in_err-meta-clause-moments
 returns-in_err-meta-clause-moments g c told none = disk_weaker (c.make_store.ensures.moments told none) (making_first c.args.limits.now c.requires)
 
-pub keep-requires-clause-rules : goal.keep-requires-clause-rules
-keep-requires-clause-rules g c = subst IsMeta (sym c.in_ok-meta.ensures.meta) (first_lawful c.args.limits.now c.requires)
+pub keep_first-requires-clause-rules : goal.keep_first-requires-clause-rules
+keep_first-requires-clause-rules g c = subst IsMeta (sym c.in_ok-meta.ensures.meta) (first_lawful c.args.limits.now c.requires)
+
+pub keep_first-requires-clause-empty : goal.keep_first-requires-clause-empty
+keep_first-requires-clause-empty g c = ap (λ (m : Content). m.series) c.in_ok-meta.ensures.meta
 
 pub returns-in-Ok-clause-stands : goal.returns-in-Ok-clause-stands
 returns-in-Ok-clause-stands g c told =

@@ -1,5 +1,6 @@
-use Rattle.std.proofs.Common.{◌≡◌, ◌∙◌, ℕ, ◌+◌, ◌*◌, ◌≤◌, List, [], ◌∷◌, ◌++◌, length, Option, None, bytes_eq, false, sym, ap, subst, arith}
+use Rattle.std.proofs.Common.{◌≡◌, ◌∙◌, ℕ, ◌+◌, ◌*◌, ◌≤◌, List, [], ◌∷◌, ◌++◌, length, Option, None, bytes_eq, false, Result, Ok, Err, OnOk, is_err, sym, ap, subst, arith}
 use Rattle.std.specs.List.{list_any}
+use Rattle.ak_levels.specs.Pending.{Lists, no_lists}
 use Rattle.ak_meta.specs.Contents.{Content, size_of, names_of}
 use Rattle.ak_meta.specs.Leaves.{with_series}
 use Rattle.ak_meta.proofs.Sizes.{many}
@@ -12,14 +13,22 @@ use Rattle.ak_tree.proofs.Becoming.{becomes_named}
 use Rattle.ak_tree.proofs.forest.Forest.add.Goals as goal
 
 abbrev old : goal.After-unwrap → Trees
-old c = trees c.self.inside.meta c.self.inside.pool c.self.inside.frames.items c.self.inside.check c.self.inside.since
+old c = trees c.self.inside.meta c.self.inside.pool c.self.inside.frames.items c.self.inside.levels c.self.inside.check c.self.inside.since
 
-new_is : (c : goal.After-unwrap) → trees c.add.new.self c.self.inside.pool c.push.new.self.items c.self.inside.check c.self.inside.since ≡ with_named (old c) c.args.name.now
+ok_is : {T E P : Type 0} (r : Result T E) → false ≡ is_err r → OnOk r P → P
+ok_is (Ok x) is p = p
+ok_is (Err e) is p = absurd (cc)
+
+levels_are : (c : goal.After-unwrap) → c.push.new.self ≡ c.self.inside.levels ++ no_lists ∷ []
+levels_are c = ok_is c.push.result c.if-is_err-2.ensures.value c.push.ensures.ok ∙ ap (λ (v : Lists). c.self.inside.levels ++ v ∷ []) c.new.ensures
+
+new_is : (c : goal.After-unwrap) → trees c.add.new.self c.self.inside.pool c.push-in-Ok.new.self.items c.push.new.self c.self.inside.check c.self.inside.since ≡ with_named (old c) c.args.name.now
 new_is c =
-    let put : c.push.new.self.items ≡ c.try_reserve.new.self.items ++ None ∷ [] = rw c.unwrap.ensures at c.push.ensures.items in
-    let all : c.push.new.self.items ≡ c.self.inside.frames.items ++ None ∷ [] = put ∙ ap (λ (frames : List (Option Frame)). frames ++ None ∷ []) c.try_reserve.ensures.items in
-    ap (λ (m : Content). trees m c.self.inside.pool c.push.new.self.items c.self.inside.check c.self.inside.since) c.in-Ok.ensures.ok
-    ∙ ap (λ (frames : List (Option Frame)). trees (with_series c.self.inside.meta c.args.name.now) c.self.inside.pool frames c.self.inside.check c.self.inside.since) all
+    let put : c.push-in-Ok.new.self.items ≡ c.try_reserve.new.self.items ++ None ∷ [] = rw c.unwrap.ensures at c.push-in-Ok.ensures.items in
+    let all : c.push-in-Ok.new.self.items ≡ c.self.inside.frames.items ++ None ∷ [] = put ∙ ap (λ (frames : List (Option Frame)). frames ++ None ∷ []) c.try_reserve.ensures.items in
+    ap (λ (m : Content). trees m c.self.inside.pool c.push-in-Ok.new.self.items c.push.new.self c.self.inside.check c.self.inside.since) c.in-Ok.ensures.ok
+    ∙ ap (λ (frames : List (Option Frame)). trees (with_series c.self.inside.meta c.args.name.now) c.self.inside.pool frames c.push.new.self c.self.inside.check c.self.inside.since) all
+    ∙ ap (λ (levels : List Lists). trees (with_series c.self.inside.meta c.args.name.now) c.self.inside.pool (c.self.inside.frames.items ++ None ∷ []) levels c.self.inside.check c.self.inside.since) (levels_are c)
 
 other : (c : goal.After-unwrap) → list_any (λ n. bytes_eq c.args.name.now n) (names_of c.self.inside.meta.series) ≡ false
 other c = subst (λ (t : Trees). list_any (λ n. bytes_eq c.args.name.now n) (names_of t.meta.series) ≡ false) (sym c.self.view_is) c.requires.new

@@ -5,9 +5,10 @@ use Rattle.ak_meta.specs.Contents.{names_of}
 use Rattle.ak_tree.specs.Standing.{Trees, AreTrees, Holds, last_known}
 use Rattle.ak_world.specs.Steps.{closed, oldest}
 use Rattle.ak_world.specs.Worlds.{World}
-use Rattle.ak_tree.proofs.Appended.{Below, not_free, one_free, begun_free, full_begun, full_worn, full_passes, started_holds, started_below}
+use Rattle.ak_tree.proofs.Appended.{Below, oldest_opens, not_free, one_free, begun_free, full_begun, full_worn, full_passes, started_holds, started_below}
 use Rattle.ak_tree.proofs.Closed.{same_number}
-use Rattle.ak_tree.proofs.Telling.{worn_from}
+use Rattle.ak_tree.proofs.Telling.{worn_from, memory_from}
+use Rattle.ak_tree.proofs.Worn.{oldest_left}
 use Rattle.ak_tree.proofs.Becoming.{becomes_it, becomes_on}
 use Rattle.ak_tree.proofs.forest.Forest.begin.Goals as goal
 
@@ -30,6 +31,16 @@ returns-in_err-close_oldest-clause-worn g c told w holds =
     let full = not_free (length f.pool.used) f.pool.count c.if-start.ensures.room.1 in
     let here = subst (λ (t : Trees). Holds w t (g.D.Outside.state c.args.disk.now)) (sym (c.if-start.ensures.full no)) holds in
     worn_from c.from_residual.result c.in_err-close_oldest.field-0.0 c.from_residual.ensures.1 (λ s. full_worn w f c.args.series c.args.p s are holds.keeps c.requires.known c.requires.none full) (c.in_err-close_oldest.ensures.worn told w here)
+
+pub returns-in_err-close_oldest-clause-left : goal.returns-in_err-close_oldest-clause-left
+returns-in_err-close_oldest-clause-left g c told w holds =
+    let f = c.args.self.now in
+    let no : IsFalse false = search rules in
+    let are : AreTrees f = subst AreTrees c.self.view_is c.self.invariant in
+    let full = not_free (length f.pool.used) f.pool.count c.if-start.ensures.room.1 in
+    let here = subst (λ (t : Trees). Holds w t (g.D.Outside.state c.args.disk.now)) (sym (c.if-start.ensures.full no)) holds in
+    worn_from c.from_residual.result c.in_err-close_oldest.field-0.0 c.from_residual.ensures.1 (λ s. oldest_left w f c.close_oldest.new.self c.args.series c.args.p are holds.keeps c.requires.known c.requires.none full)
+    (c.in_err-close_oldest.ensures.left told w here)
 
 pub returns-in_err-close_oldest-clause-moments : goal.returns-in_err-close_oldest-clause-moments
 returns-in_err-close_oldest-clause-moments g c told w holds =
@@ -103,3 +114,15 @@ returns-clause-becomes g c =
     let free = one_free f now are is (c.close_oldest.ensures.limits ∙ ap (λ (t : Trees). t.meta.limits) same) (c.in_ok-close_oldest.ensures.fewer ∙ ap (λ (t : Trees). length t.pool.used) same) in
     let closing = becomes_on (becomes_it f.meta c.start.new.self.meta (ap (λ (t : Trees). t.meta) same)) c.in_ok-close_oldest.ensures.becomes in
     becomes_on closing (becomes_it now.meta c.start-2.new.self.meta (ap (λ (t : Trees). t.meta) (c.start-2.ensures.started (c.start-2.ensures.room.1 free)).1))
+
+pub returns-in_err-close_oldest-clause-memory : goal.returns-in_err-close_oldest-clause-memory
+returns-in_err-close_oldest-clause-memory g c =
+    let f = c.args.self.now in
+    let no : IsFalse false = search rules in
+    let full = not_free (length f.pool.used) f.pool.count c.if-start.ensures.room.1 in
+    memory_from c.from_residual.result c.in_err-close_oldest.field-0.0 c.from_residual.ensures.1 (oldest_opens f c.start.new.self c.args.series c.args.p (c.if-start.ensures.full no) c.requires.none full) c.in_err-close_oldest.ensures.memory
+
+pub returns-in_err-close_oldest-clause-kept : goal.returns-in_err-close_oldest-clause-kept
+returns-in_err-close_oldest-clause-kept g c =
+    let no : IsFalse false = search rules in
+    memory_from c.from_residual.result c.in_err-close_oldest.field-0.0 c.from_residual.ensures.1 (λ kept. (kept.0 ∙ c.if-start.ensures.full no, kept.1)) c.in_err-close_oldest.ensures.kept

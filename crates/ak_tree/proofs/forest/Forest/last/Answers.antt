@@ -16,7 +16,7 @@ known_in f now n o w same are within is keeps = is ∙ known_is w now n (subst A
 
 pub returns-in-Some-clause-known : goal.returns-in-Some-clause-known
 returns-in-Some-clause-known c =
-    let f : Trees = trees c.self.inside.meta c.self.inside.pool c.self.inside.frames.items c.self.inside.check c.self.inside.since in
+    let f : Trees = trees c.self.inside.meta c.self.inside.pool c.self.inside.frames.items c.self.inside.levels c.self.inside.check c.self.inside.since in
     let n = c.args.series in
     let known : n < length f.meta.series = subst (λ (t : Trees). n < length t.meta.series) (sym c.self.view_is) c.requires in
     let is : get_or f.frames n None ≡ Some c.in-Some.frame = frame_at f n c.index.result.now (Some c.in-Some.frame) c.self.invariant known c.index.ensures c.in-Some.is in
@@ -31,7 +31,7 @@ returns-in-Some-clause-last c w keeps = known_in _ c.args.self.now c.args.series
 
 pub returns-then-known-eq0-clause-known : goal.returns-then-known-eq0-clause-known
 returns-then-known-eq0-clause-known c =
-    let f : Trees = trees c.self.inside.meta c.self.inside.pool c.self.inside.frames.items c.self.inside.check c.self.inside.since in
+    let f : Trees = trees c.self.inside.meta c.self.inside.pool c.self.inside.frames.items c.self.inside.levels c.self.inside.check c.self.inside.since in
     let n = c.args.series in
     let known : n < length f.meta.series = subst (λ (t : Trees). n < length t.meta.series) (sym c.self.view_is) c.requires in
     let is : get_or f.frames n None ≡ None = frame_at f n c.index.result.now None c.self.invariant known c.index.ensures c.in_default.is in
@@ -46,7 +46,7 @@ returns-then-known-eq0-clause-last c w keeps = known_in _ c.args.self.now c.args
 
 pub returns-else-known-eq0-clause-known : goal.returns-else-known-eq0-clause-known
 returns-else-known-eq0-clause-known c =
-    let f : Trees = trees c.self.inside.meta c.self.inside.pool c.self.inside.frames.items c.self.inside.check c.self.inside.since in
+    let f : Trees = trees c.self.inside.meta c.self.inside.pool c.self.inside.frames.items c.self.inside.levels c.self.inside.check c.self.inside.since in
     let n = c.args.series in
     let known : n < length f.meta.series = subst (λ (t : Trees). n < length t.meta.series) (sym c.self.view_is) c.requires in
     let is : get_or f.frames n None ≡ None = frame_at f n c.index.result.now None c.self.invariant known c.index.ensures c.in_default.is in

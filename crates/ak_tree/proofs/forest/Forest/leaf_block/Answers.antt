@@ -25,7 +25,7 @@ head s series addr count size = record { kind = 1; level = 0; count = count; ser
 
 pub encode-requires : goal.encode-requires
 encode-requires c =
-    let f : Trees = trees c.self.inside.meta c.self.inside.pool c.self.inside.frames.items c.self.inside.check c.self.inside.since in
+    let f : Trees = trees c.self.inside.meta c.self.inside.pool c.self.inside.frames.items c.self.inside.levels c.self.inside.check c.self.inside.since in
     let k = length f.meta.series in
     let n = c.args.series in
     let s : SeriesMeta = c.index-series-series.result in
@@ -43,7 +43,7 @@ encode-requires c =
 
 pub returns : goal.returns
 returns c =
-    let f : Trees = trees c.self.inside.meta c.self.inside.pool c.self.inside.frames.items c.self.inside.check c.self.inside.since in
+    let f : Trees = trees c.self.inside.meta c.self.inside.pool c.self.inside.frames.items c.self.inside.levels c.self.inside.check c.self.inside.since in
     let n = c.args.series in
     let s : SeriesMeta = c.index-series-series.result in
     let known : n < length f.meta.series = subst (λ (t : Trees). n < length t.meta.series) (sym c.self.view_is) c.requires.known in

@@ -19,10 +19,10 @@ free c =
 
 pub invariant_of-result : goal.invariant_of-result
 invariant_of-result c =
-    subst (λ (pool : Frames). AreTrees (trees c.args.meta pool c.loop.frames.items c.args.check 0)) (sym (pool_is c))
-    (trees_new c.args.meta c.loop.frames.items c.args.check c.requires.rules c.requires.room c.requires.slot (free c))
+    subst (λ (pool : Frames). AreTrees (trees c.args.meta pool c.loop.frames.items c.args.levels c.args.check 0)) (sym (pool_is c))
+    (trees_new c.args.meta c.loop.frames.items c.args.levels c.args.check c.requires.rules c.requires.room c.requires.slot c.requires.lawful (free c))
 
 pub returns-clause-keeps : goal.returns-clause-keeps
 returns-clause-keeps c view same number may =
-    subst (λ (pool : Frames). Keeps (world_of view) (trees c.args.meta pool c.loop.frames.items c.args.check 0)) (sym (pool_is c))
-    (keeps_new c.args.meta c.args.meta.limits.pool c.loop.frames.items c.args.check view c.requires.rules same number may)
+    subst (λ (pool : Frames). Keeps (world_of view) (trees c.args.meta pool c.loop.frames.items c.args.levels c.args.check 0)) (sym (pool_is c))
+    (keeps_new c.args.meta c.args.meta.limits.pool c.loop.frames.items c.args.levels c.args.check view c.requires.rules same number may)

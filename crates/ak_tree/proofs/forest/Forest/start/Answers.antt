@@ -32,18 +32,18 @@ pool_is c =
 
 pub invariant_of-self-2 : goal.invariant_of-self-2
 invariant_of-self-2 c =
-    let f : Trees = trees c.self.inside.meta c.self.inside.pool c.self.inside.frames.items c.self.inside.check c.self.inside.since in
+    let f : Trees = trees c.self.inside.meta c.self.inside.pool c.self.inside.frames.items c.self.inside.levels c.self.inside.check c.self.inside.since in
     let known : c.args.series < length f.meta.series = subst (λ (t : Trees). c.args.series < length t.meta.series) (sym c.self.view_is) c.requires.known in
     let none : get_or f.frames c.args.series None ≡ None = subst (λ (t : Trees). get_or t.frames c.args.series None ≡ None) (sym c.self.view_is) c.requires.none in
     let unused : IsUsed f.pool.used c.in-Some.frame.0 → ⊥ = c.in-Some.ensures.unused in
     let valid : AreFrames (frames_of f.pool.count (used_frame c.in-Some.frame.0 c.args.series [] ∷ f.pool.used)) = subst AreFrames c.in-Some.ensures.taken c.in-Some.ensures.valid in
     let now : AreFrames (frames_of f.pool.count (used_frame c.in-Some.frame.0 c.args.series (c.args.p ∷ []) ∷ f.pool.used)) = record { numbered = valid.numbered; most = valid.most } in
-    subst (λ (pool : Frames). AreTrees (trees f.meta pool (slice_set f.frames c.args.series (Some c.in-Some.frame)) f.check f.since)) (sym (pool_is c))
+    subst (λ (pool : Frames). AreTrees (trees f.meta pool (slice_set f.frames c.args.series (Some c.in-Some.frame)) f.levels f.check f.since)) (sym (pool_is c))
     (trees_begun f c.args.series c.in-Some.frame (c.args.p ∷ []) c.self.invariant known none unused (λ e. cc) (one_fits c.args.p) now)
 
 pub returns-clause-started : goal.returns-clause-started
 returns-clause-started c _ = (
   c.in-Some.frame,
-  ap (λ (pool : Frames). trees c.self.inside.meta pool (slice_set c.self.inside.frames.items c.args.series (Some c.in-Some.frame)) c.self.inside.check c.self.inside.since) (pool_is c)
-      ∙ ap (λ (t : Trees). trees t.meta (frames_of t.pool.count (used_frame c.in-Some.frame.0 c.args.series (c.args.p ∷ []) ∷ t.pool.used)) (slice_set t.frames c.args.series (Some c.in-Some.frame)) t.check t.since) c.self.view_is,
+  ap (λ (pool : Frames). trees c.self.inside.meta pool (slice_set c.self.inside.frames.items c.args.series (Some c.in-Some.frame)) c.self.inside.levels c.self.inside.check c.self.inside.since) (pool_is c)
+      ∙ ap (λ (t : Trees). trees t.meta (frames_of t.pool.count (used_frame c.in-Some.frame.0 c.args.series (c.args.p ∷ []) ∷ t.pool.used)) (slice_set t.frames c.args.series (Some c.in-Some.frame)) t.levels t.check t.since) c.self.view_is,
 )

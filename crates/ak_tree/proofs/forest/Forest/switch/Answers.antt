@@ -1,30 +1,55 @@
-use Rattle.std.proofs.Common.{◌≡◌, inl, inr, ◌-◌, ◌^◌, ◌<◌, ◌∙◌, ap, sym, subst, length}
+use Rattle.std.proofs.Common.{◌≡◌, inl, inr, ◌-◌, ◌^◌, ◌<◌, ◌≤◌, ◌∙◌, arith, ap, sym, subst, length}
 use Rattle.std.proofs.lemmas.Bool.{cases_lt}
 use Rattle.ak_base.specs.declared.limits.Limits.{Limits}
 use Rattle.ak_host.specs.Moments.{DiskPasses}
 use Rattle.ak_host.proofs.Passing.{disk_starts}
-use Rattle.ak_tree.specs.Standing.{Trees, Holds, trees}
+use Rattle.ak_tree.specs.Standing.{Trees, Holds, Keeps, trees}
 use Rattle.ak_tree.specs.Storing.{LeavesView}
 use Rattle.ak_volumes.specs.Ordinals.{Ordinals, newest, file_of, switched}
 use Rattle.ak_world.specs.Steps.{switch}
 use Rattle.ak_tree.proofs.Saved.{trees_switched, switch_holds, switch_leaves}
+use Rattle.ak_tree.proofs.Telling.{worn_here, worn_both}
+use Rattle.ak_tree.proofs.Worn.{full_left, switch_left}
 use Rattle.ak_tree.proofs.forest.Forest.switch.Goals as goal
 
 pub invariant_of-self : goal.invariant_of-self
 invariant_of-self g c =
     let m = c.self.inside in
     let below = subst (λ (f : Trees). newest f.meta.ordinals < 2 ^ 32 - 1) (sym c.self.view_is) c.requires.below in
-    trees_switched m.meta c.switch.new.self m.pool m.frames.items m.check m.since c.self.invariant below (c.switch.ensures.switched ∙ ap switched c.volumes_mut.ensures.value)
+    trees_switched m.meta c.switch.new.self m.pool m.frames.items m.levels m.check m.since c.self.invariant below (c.switch.ensures.switched ∙ ap switched c.volumes_mut.ensures.value)
+
+pub returns-then-fills-limits-clause-left : goal.returns-then-fills-limits-clause-left
+returns-then-fills-limits-clause-left g c told w holds =
+    let m = c.self.inside in
+    let fills = c.fills.ensures.fills ∙ ap (λ (o : Ordinals). o.fills) c.volumes.ensures in
+    let full : length m.meta.ordinals.fills ≡ m.meta.limits.volumes = ap length (sym fills) ∙ c.if-fills-limits.true ∙ ap (λ (l : Limits). l.volumes) c.limits.ensures in
+    let most = subst (λ (t : Trees). t.meta.ordinals.volumes ≤ length t.meta.ordinals.fills) c.self.view_is (omega (arith, full, c.self.invariant.rules_are.volumes)) in
+    worn_here c.worn.result (λ s. full_left w c.args.self.now holds.keeps most)
+
+pub returns-clause-left : goal.returns-clause-left
+returns-clause-left g c told w holds =
+    let m = c.self.inside in
+    let old = g.D.Outside.state c.args.disk.now in
+    let f : Trees = trees m.meta m.pool m.frames.items m.levels m.check m.since in
+    let h : Trees = trees (record m.meta { ordinals = c.switch.new.self }) m.pool m.frames.items m.levels m.check m.since in
+    let below = subst (λ (f : Trees). newest f.meta.ordinals < 2 ^ 32 - 1) (sym c.self.view_is) c.requires.below in
+    let begun : h ≡ record f { meta = record m.meta { ordinals = switched m.meta.ordinals } } =
+    ap (λ (o : Ordinals). trees (record m.meta { ordinals = o }) m.pool m.frames.items m.levels m.check m.since) (c.switch.ensures.switched ∙ ap switched c.volumes_mut.ensures.value) in
+    let fills = c.fills.ensures.fills ∙ ap (λ (o : Ordinals). o.fills) c.volumes.ensures in
+    let free : length m.meta.ordinals.fills ≡ m.meta.limits.volumes → ⊥ =
+    λ e. c.if-fills-limits.false (ap length fills ∙ e ∙ sym (ap (λ (l : Limits). l.volumes) c.limits.ensures)) in
+    let here = subst (λ (t : Trees). Keeps w t) (sym c.self.view_is) holds.keeps in
+    worn_both c.save.result (λ s last same. switch_left w f h c.save.new.self here c.self.invariant.rules_are below free begun last.0 same) c.save.ensures.worn c.save.ensures.still
 
 pub returns-clause-after : goal.returns-clause-after
 returns-clause-after g c told w holds =
     let m = c.self.inside in
     let old = g.D.Outside.state c.args.disk.now in
-    let f : Trees = trees m.meta m.pool m.frames.items m.check m.since in
-    let h : Trees = trees (record m.meta { ordinals = c.switch.new.self }) m.pool m.frames.items m.check m.since in
+    let f : Trees = trees m.meta m.pool m.frames.items m.levels m.check m.since in
+    let h : Trees = trees (record m.meta { ordinals = c.switch.new.self }) m.pool m.frames.items m.levels m.check m.since in
     let below = subst (λ (f : Trees). newest f.meta.ordinals < 2 ^ 32 - 1) (sym c.self.view_is) c.requires.below in
     let begun : h ≡ record f { meta = record m.meta { ordinals = switched m.meta.ordinals } } =
-    ap (λ (o : Ordinals). trees (record m.meta { ordinals = o }) m.pool m.frames.items m.check m.since) (c.switch.ensures.switched ∙ ap switched c.volumes_mut.ensures.value) in
+    ap (λ (o : Ordinals). trees (record m.meta { ordinals = o }) m.pool m.frames.items m.levels m.check m.since) (c.switch.ensures.switched ∙ ap switched c.volumes_mut.ensures.value) in
     let file_is = subst (λ (f : Trees). c.newest_file-before.result ≡ file_of f.meta.ordinals (newest f.meta.ordinals)) (sym c.self.view_is) c.newest_file-before.ensures in
     let fills = c.fills.ensures.fills ∙ ap (λ (o : Ordinals). o.fills) c.volumes.ensures in
     let free : length m.meta.ordinals.fills ≡ m.meta.limits.volumes → ⊥ =
@@ -36,11 +61,11 @@ pub returns-clause-moments : goal.returns-clause-moments
 returns-clause-moments g c told w holds =
     let m = c.self.inside in
     let old = g.D.Outside.state c.args.disk.now in
-    let f : Trees = trees m.meta m.pool m.frames.items m.check m.since in
-    let h : Trees = trees (record m.meta { ordinals = c.switch.new.self }) m.pool m.frames.items m.check m.since in
+    let f : Trees = trees m.meta m.pool m.frames.items m.levels m.check m.since in
+    let h : Trees = trees (record m.meta { ordinals = c.switch.new.self }) m.pool m.frames.items m.levels m.check m.since in
     let below = subst (λ (f : Trees). newest f.meta.ordinals < 2 ^ 32 - 1) (sym c.self.view_is) c.requires.below in
     let begun : h ≡ record f { meta = record m.meta { ordinals = switched m.meta.ordinals } } =
-    ap (λ (o : Ordinals). trees (record m.meta { ordinals = o }) m.pool m.frames.items m.check m.since) (c.switch.ensures.switched ∙ ap switched c.volumes_mut.ensures.value) in
+    ap (λ (o : Ordinals). trees (record m.meta { ordinals = o }) m.pool m.frames.items m.levels m.check m.since) (c.switch.ensures.switched ∙ ap switched c.volumes_mut.ensures.value) in
     let file_is = subst (λ (f : Trees). c.newest_file-before.result ≡ file_of f.meta.ordinals (newest f.meta.ordinals)) (sym c.self.view_is) c.newest_file-before.ensures in
     let fills = c.fills.ensures.fills ∙ ap (λ (o : Ordinals). o.fills) c.volumes.ensures in
     let free : length m.meta.ordinals.fills ≡ m.meta.limits.volumes → ⊥ =

@@ -7,7 +7,8 @@ use Rattle.ak_tree.specs.Storing.{LeavesView}
 use Rattle.ak_volumes.specs.Ordinals.{newest, file_of}
 use Rattle.ak_world.specs.Worlds.{after_view}
 use Rattle.ak_tree.proofs.Saved.{newest_among, view_holds, view_leaves, view_told}
-use Rattle.ak_tree.proofs.Telling.{worn_weaker}
+use Rattle.ak_tree.proofs.Telling.{worn_both, worn_weaker}
+use Rattle.ak_tree.proofs.Worn.{view_left}
 use Rattle.std.proofs.lemmas.Result.{on_ok_weaker}
 use Rattle.ak_tree.proofs.Becoming.{becomes_it}
 use Rattle.ak_tree.proofs.forest.Forest.view.Goals as goal
@@ -19,6 +20,9 @@ save-requires-clause-among g c =
 
 pub returns-clause-worn : goal.returns-clause-worn
 returns-clause-worn g c told w holds = worn_weaker c.save.result (λ s last. view_told w c.args.self.now s holds.keeps last) c.save.ensures.worn
+
+pub returns-clause-left : goal.returns-clause-left
+returns-clause-left g c told w holds = worn_both c.save.result (λ s last same. view_left w c.args.self.now c.save.new.self holds.keeps last.0 same) c.save.ensures.worn c.save.ensures.still
 
 pub returns-clause-after : goal.returns-clause-after
 returns-clause-after g c told w holds =

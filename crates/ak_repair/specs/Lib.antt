@@ -1,0 +1,4 @@
+pub mod Reads
+pub mod Walks
+pub mod Damage
+pub mod Firsts
