@@ -352,7 +352,7 @@ fn a_group_is_written(rt: HostRuntime) -> Result<(), Fail> {
 }
 
 // Leaf 16 has no room in ordinal 0: a view is taken, of a body and a gate, and then the leaf is written. Ordinal 1 has a block
-// left for the group of leaf 31, which has two, and no ordinal begins in the place of another.
+// left for the group of leaf 31, which has two: ordinal 2 begins in the place of ordinal 0.
 #[test]
 fn an_ordinal_begins_behind_a_view(rt: HostRuntime) -> Result<(), Fail> {
     let alloc = rt.alloc();
@@ -373,7 +373,7 @@ fn an_ordinal_begins_behind_a_view(rt: HostRuntime) -> Result<(), Fail> {
 }
 
 #[test]
-fn a_used_up_store_is_worn(rt: HostRuntime) -> Result<(), Fail> {
+fn an_ordinal_takes_the_place_of_the_oldest(rt: HostRuntime) -> Result<(), Fail> {
     let alloc = rt.alloc();
     let mut host = MemHost::new(alloc, &[], &[])?;
     let Some(mut forest) = made(alloc, &mut host, &LAZY) else {
@@ -382,13 +382,12 @@ fn a_used_up_store_is_worn(rt: HostRuntime) -> Result<(), Fail> {
     };
     assert!(rt; add(alloc, &mut forest, &host, "a"));
     assert!(rt; leaves(alloc, &mut forest, &mut host, 31));
-    let before = host.writes();
-    let worn = Stop::Worn {
-        ordinal: 1,
-        fill: 15,
-        number: 2,
-    };
-    assert_eq!(rt; leaf(alloc, &mut forest, &mut host, 31), Err(worn));
-    assert_eq!(rt; host.writes(), before);
+    assert_eq!(rt; place(&forest), (1, 15));
+    assert_eq!(rt; forest.volumes().lo(), 0);
+    assert!(rt; closed(alloc, &mut forest, &mut host, 31));
+    assert_eq!(rt; place(&forest), (2, 2));
+    assert_eq!(rt; forest.volumes().lo(), 1);
+    // the references that waited were taken, also those to leaves that are live no more
+    assert_eq!(rt; waiting(&forest, 0), (32, 0, 1));
     Ok(())
 }

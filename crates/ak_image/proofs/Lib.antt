@@ -12,8 +12,9 @@ pub mod StepRows
 pub mod StepScans
 pub mod StepTrees
 pub mod Growing
-pub mod Refilling
 pub mod Numbered
 pub mod Lifting
 pub mod Rescuing
 pub mod Entering
+pub mod Moving
+pub mod Raising

@@ -1,6 +1,5 @@
 -- How the live blocks stay laid out.
-use Rattle.std.proofs.Common.{◌≡◌, ◌≢◌, ◌+◌, ◌-◌, ◌<◌, ◌≤◌, ℕ, zero, suc, Bool, true, false, List, [], ◌∷◌, ◌++◌, length, drop, refl, sym, ap, ◌∙◌, subst, arith, length-append}
-use Rattle.std.specs.Prelude.{if◌then◌else◌}
+use Rattle.std.proofs.Common.{◌≡◌, ◌≢◌, ◌+◌, ◌-◌, ◌<◌, ◌≤◌, ℕ, zero, suc, List, [], ◌∷◌, ◌++◌, length, refl, sym, ap, ◌∙◌, subst, arith, length-append}
 use Rattle.ak_base.specs.Points.{IsHistoryFrom, last_ts_from}
 use Rattle.ak_base.specs.declared.point.Point.{Point}
 use Rattle.ak_image.specs.Blocks.{Seen}
@@ -11,34 +10,15 @@ use Rattle.ak_image.specs.Scans.{IsLeafOf, AreFound, IsScan}
 use Rattle.ak_image.proofs.Agreeing.{laid_agree}
 use Rattle.ak_image.proofs.StepBlocks.{found_own, found_other}
 use Rattle.ak_image.proofs.StepChains.{chain_begin, chain_more}
-use Rattle.ak_image.proofs.StepRows.{last_fill, with_more, newest_fill_is, filled_is, rows_more, rows_begin, rows_known}
-use Rattle.ak_image.proofs.StepScans.{scan_more, scan_none, scan_begin, scan_unknown}
-use Rattle.ak_image.proofs.StepTrees.{trees_begin, trees_with_series, trees_more}
+use Rattle.ak_image.proofs.StepRows.{last_fill, with_more, newest_fill_is, filled_is, rows_more, rows_known}
+use Rattle.ak_image.proofs.StepScans.{scan_more, scan_none, scan_unknown}
+use Rattle.ak_image.proofs.StepTrees.{trees_with_series, trees_more}
 use Rattle.ak_levels.specs.Carries.{carry_of}
 use Rattle.ak_meta.specs.Contents.{Content, IsMeta}
 use Rattle.ak_meta.specs.Leaves.{with_leaf_at, new_series, with_series, closed_in, leaves_at}
 use Rattle.ak_meta.specs.declared.meta.SeriesMeta.{SeriesMeta}
-use Rattle.ak_volumes.specs.Ordinals.{Ordinals, newest, newest_fill, address, filled, switched}
+use Rattle.ak_volumes.specs.Ordinals.{Ordinals, newest, newest_fill, address, filled}
 use Rattle.ak_world.specs.Leaves.{Leaf}
-use Rattle.ak_world.specs.Steps.{is_full}
-
--- ---- An ordinal that begins
-
-all_begin : (seen : Seen) (lo : ℕ) (fills : List ℕ) (k : ℕ) (series : List SeriesMeta) (kept : List (List Leaf)) → AreLaid seen lo fills k series kept → AreLaid seen lo (fills ++ 0 ∷ []) k series kept
-all_begin seen lo fills k [] kept h = h
-all_begin seen lo fills k (x ∷ series) kept h = (h.0, h.1, h.2, scan_begin seen k lo fills h.0 h.3, h.4, all_begin seen lo fills (suc k) series h.1 h.5)
-
-begun : (seen : Seen) (c : Content) (kept : List (List Leaf)) (full : Bool) → full ≡ false → IsLaid seen c kept
-    → IsLaid seen (record c { ordinals = if full then record (c.ordinals) { lo = c.ordinals.lo + 1; fills = drop 1 c.ordinals.fills ++ 0 ∷ [] } else record (c.ordinals) { fills = c.ordinals.fills ++ 0 ∷ [] } }) kept
-begun seen c kept true e h = absurd (cc)
-begun seen c kept false e h = record {
-  rows = rows_begin seen (length c.series) c.ordinals.lo c.ordinals.fills h.rows;
-  leaves = all_begin seen c.ordinals.lo c.ordinals.fills 0 c.series kept h.leaves;
-  trees = trees_begin seen c.ordinals 0 c.series kept h.trees;
-}
-
-pub ordinal_laid : (seen : Seen) (c : Content) (kept : List (List Leaf)) → IsMeta c → is_full c.ordinals ≡ false → IsLaid seen c kept → IsLaid seen (record c { ordinals = switched c.ordinals }) kept
-ordinal_laid seen c kept is room h = begun seen c kept (is_full c.ordinals) room h
 
 -- ---- A series that begins
 

@@ -1,7 +1,7 @@
 -- How the blocks of a series and what waits of it in memory belong together.
 use Rattle.std.specs.Prelude.{ℕ, suc, ◌≡◌, ◌+◌, ◌-◌, ◌/◌, ◌^◌, ◌<◌, List, [], ◌∷◌, length, map}
 use Rattle.ak_base.specs.declared.point.Point.{Point}
-use Rattle.ak_forest.specs.Tree.{Node, Reference, IsGrown, Waits}
+use Rattle.ak_forest.specs.Tree.{Node, Reference, IsGrown}
 use Rattle.ak_image.specs.Blocks.{Seen}
 use Rattle.ak_image.specs.Laid.{spot, series_in}
 use Rattle.ak_image.specs.Nodes.{reference_of, IsInnerOf, Reads}
@@ -58,9 +58,3 @@ next_node c n ps v k = record {
 -- the inner nodes of this group stand behind the leaf
 abbrev pub AreNodes : Seen → Content → ℕ → List Point → Lists → Type 0
 AreNodes seen c n ps v = (k : ℕ) → k < carry_of (leaves_at c.series n) → IsInnerOf seen (spot c.ordinals + suc k) (next_node c n ps v k)
-
--- While the live leaves of a series are entered again from the first on, before the one of this number: what waits are the references
--- to the nodes made so far, in order up to this time.
-pub record IsRefilled (o : Ordinals) (leaves : List Leaf) (first number time : ℕ) (v : Lists) : Type 0 where
-  pub waits : (k : ℕ) → Waits 32 o.lo first (address_of leaves) (total_of leaves) first number k (waiting_of v k)
-  pub order : AreInOrder 0 time (all_below v 11)

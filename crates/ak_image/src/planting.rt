@@ -5,7 +5,7 @@ ghost use Rattle.ak_base.specs.declared.point.Point.{Point};
 ghost use Rattle.ak_image.specs.Blocks.{Seen};
 ghost use Rattle.ak_image.specs.Chains.{IsChain};
 ghost use Rattle.ak_image.specs.Laid.{IsLaid, IsWritten, spot, last_in, kept_in, series_in, next_leaf, next_known};
-ghost use Rattle.ak_image.specs.Planted.{IsPlanted, AreNodes, IsRefilled};
+ghost use Rattle.ak_image.specs.Planted.{IsPlanted, ArePlanted, AreNodes};
 ghost use Rattle.ak_image.specs.Trees.{IsTreeOf};
 ghost use Rattle.ak_levels.specs.Carries.{carry_of};
 ghost use Rattle.ak_levels.specs.Closes.{leaf_ref, closed_lists};
@@ -13,8 +13,8 @@ ghost use Rattle.ak_levels.specs.Pending.{Lists, no_lists, pending_at};
 ghost use Rattle.ak_meta.specs.Contents.{Content, IsMeta};
 ghost use Rattle.ak_meta.specs.Leaves.{new_series, leaves_at};
 ghost use Rattle.ak_meta.specs.declared.meta.SeriesMeta.{SeriesMeta};
-ghost use Rattle.ak_volumes.specs.Ordinals.{Ordinals, IsLive, newest_fill, filled};
-ghost use Rattle.ak_world.specs.Leaves.{Leaf};
+ghost use Rattle.ak_volumes.specs.Ordinals.{Ordinals, IsLive, newest_fill, filled, switched};
+ghost use Rattle.ak_world.specs.Leaves.{Leaf, kept_from};
 ghost use Rattle.ak_world.specs.Views.{last_time};
 
 /// A series that begins has no tree, and nothing waits of it.
@@ -29,6 +29,13 @@ pub fn planted_agrees()
         → IsPlanted o seen n known leaves base v → IsPlanted other later n known leaves base v }
 {}
 
+/// An ordinal that begins, maybe in the place of the oldest, keeps what waits of each series planted.
+pub fn planted_with_ordinal()
+    ensures { (seen : Seen) (c : Content) (kept : List (List Leaf)) (bases : List ℕ) (levels : List Lists) → IsMeta c → IsLaid seen c kept
+        → ArePlanted c.ordinals seen 0 c.series kept bases levels
+        → ArePlanted (switched c.ordinals) seen 0 c.series (kept_from (switched c.ordinals).lo kept) bases levels }
+{}
+
 /// A group that is written behind the live blocks and entered: its leaf is the next of its series, and its nodes take what waited.
 pub fn planted_with_leaf()
     ensures { (old new : Seen) (c : Content) (kept : List (List Leaf)) (n base : ℕ) (ps : List Point) (v : Lists)
@@ -38,27 +45,4 @@ pub fn planted_with_leaf()
         → IsPlanted c.ordinals old n (series_in c.series n) (kept_in kept n) base v
         → IsPlanted (filled c.ordinals (1 + carry_of (leaves_at c.series n))) new n (next_known c n ps)
         (kept_in kept n ++ next_leaf c n ps ∷ []) base (closed_lists v (leaves_at c.series n) (leaf_ref (spot c.ordinals) ps)) }
-{}
-
-/// Before the first live leaf is entered again nothing waits.
-pub fn refilled_first()
-    ensures { (o : Ordinals) (leaves : List Leaf) (first : ℕ) (v : Lists)
-        → ((k : ℕ) → pending_at v k ≡ []) → IsRefilled o leaves first first 0 v }
-{}
-
-/// The next leaf is entered.
-pub fn refilled_next()
-    ensures { (seen : Seen) (o : Ordinals) (series : ℕ) (known : SeriesMeta) (leaves front behind : List Leaf) (leaf : Leaf) (v : Lists)
-        → (chain : IsChain seen o.lo series known leaves) → leaves ≡ front ++ leaf ∷ behind → known.leaves < 32 ^ 11 → length v.pending ≡ 11
-        → IsRefilled o leaves chain.first leaf.number (last_time 0 front) v
-        → IsRefilled o leaves chain.first (suc leaf.number) (last_time 0 (front ++ leaf ∷ []))
-        (closed_lists v leaf.number (leaf_ref leaf.address leaf.points)) }
-{}
-
-/// Once all are entered, what waits belongs to the blocks.
-pub fn refilled_all()
-    ensures { (seen : Seen) (o : Ordinals) (series : ℕ) (known : SeriesMeta) (leaves : List Leaf) (v : Lists)
-        → (chain : IsChain seen o.lo series known leaves) → IsTreeOf o seen series known leaves
-        → IsRefilled o leaves chain.first known.leaves (last_time 0 leaves) v
-        → IsPlanted o seen series known leaves chain.first v }
 {}

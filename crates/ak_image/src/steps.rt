@@ -1,5 +1,5 @@
 //! How the live blocks stay laid out as a record says.
-ghost use Rattle.std.specs.Prelude.{◌≡◌, ◌+◌, ◌++◌, ◌∷◌, ◌<◌, ◌≤◌, ◌^◌, ◌-◌, [], ℕ, List, length, false};
+ghost use Rattle.std.specs.Prelude.{◌≡◌, ◌+◌, ◌++◌, ◌∷◌, ◌<◌, ◌≤◌, ◌^◌, ◌-◌, [], ℕ, List, length};
 ghost use Rattle.ak_base.specs.Points.{IsHistoryFrom, last_ts_from};
 ghost use Rattle.ak_base.specs.declared.limits.Limits.{Limits};
 ghost use Rattle.ak_base.specs.declared.point.Point.{Point};
@@ -9,8 +9,7 @@ ghost use Rattle.ak_levels.specs.Carries.{carry_of};
 ghost use Rattle.ak_meta.specs.Contents.{Content, IsMeta};
 ghost use Rattle.ak_meta.specs.Leaves.{first_content, with_series, closed_in, leaves_at};
 ghost use Rattle.ak_volumes.specs.Ordinals.{Ordinals, newest_fill, filled, switched};
-ghost use Rattle.ak_world.specs.Leaves.{Leaf};
-ghost use Rattle.ak_world.specs.Steps.{is_full};
+ghost use Rattle.ak_world.specs.Leaves.{Leaf, kept_from};
 ghost use Rattle.ak_world.specs.Valid.{kept_with};
 
 /// The first view has no leaf, whatever the blocks hold.
@@ -24,10 +23,10 @@ pub fn laid_with_series()
         → IsLaid seen (with_series c name) (kept ++ [] ∷ []) }
 {}
 
-/// An ordinal that begins is empty.
+/// An ordinal that begins is empty. Where it takes the place of the oldest, the leaves of that one are live no more.
 pub fn laid_with_ordinal()
-    ensures { (seen : Seen) (c : Content) (kept : List (List Leaf)) → IsMeta c → is_full c.ordinals ≡ false → IsLaid seen c kept
-        → IsLaid seen (record c { ordinals = switched c.ordinals }) kept }
+    ensures { (seen : Seen) (c : Content) (kept : List (List Leaf)) → IsMeta c → IsLaid seen c kept
+        → IsLaid seen (record c { ordinals = switched c.ordinals }) (kept_from (switched c.ordinals).lo kept) }
 {}
 
 /// A group that is written behind the live blocks and entered is the next leaf of its series.

@@ -2,17 +2,17 @@
 #![tactic(auto)]
 
 mod carries;
-mod closing;
 mod entry;
 mod levels;
 mod lifting;
 mod list;
+mod referring;
 #[cfg(test)]
 mod tests;
 
 pub use carries::carry;
-pub use closing::{close, refer};
 pub use entry::Entry;
 pub use levels::Levels;
-pub use lifting::lift;
+pub use lifting::{lift, refer_node};
 pub use list::LevelsList;
+pub use referring::refer;

@@ -3,6 +3,7 @@ ghost use Rattle.std.specs.Prelude.{◌≡◌, suc, ◌+◌, ◌^◌, ◌<◌, �
 ghost use Rattle.std.specs.List.{AllByRecursion};
 ghost use Rattle.ak_inner.specs.References.{AreRefs};
 ghost use Rattle.ak_summary.specs.Summaries.{IsBounded, IsOrderly};
+ghost use Rattle.ak_levels.specs.Closes.{node_ref};
 ghost use Rattle.ak_levels.specs.Entries.{IsTally};
 ghost use Rattle.ak_levels.specs.Joins.{joined_refs};
 ghost use Rattle.ak_levels.specs.Pending.{AreLists, HasRoom, pending_at, with_pending};
@@ -35,6 +36,20 @@ pub fn lift(levels: &mut Levels, level: u32, r: Ref, node: &mut Inner) -> Ref
         addr: Addr(r.addr.0 + 1),
         first_leaf: refs[0].first_leaf,
         summary: joined_summary(refs),
+    }
+}
+
+/// The reference to a node at an address, by its references.
+pub fn refer_node(at: Addr, children: &[Ref]) -> Ref
+    requires some { 1 ≤ length children.now }
+    requires few { (joined_refs children.now).count < 2 ^ 63 }
+    requires bounded { AllByRecursion (λ r. IsBounded r.summary) children.now }
+    ensures { result ≡ node_ref at.0 children.now }
+{
+    Ref {
+        addr: at,
+        first_leaf: children[0].first_leaf,
+        summary: joined_summary(children),
     }
 }
 

@@ -91,36 +91,3 @@ fn two_leaves_are_lifted(rt: HostRuntime) -> Result<(), AllocError> {
     assert_eq!(rt; entry.levels.pending(1).len(), 0);
     Ok(())
 }
-
-#[test]
-fn two_leaves_are_closed(rt: HostRuntime) -> Result<(), AllocError> {
-    let mut levels = Levels::new();
-    let mut node = Inner::new();
-    levels.reserve(rt.alloc(), 31)?;
-    let points = [Point { ts: 10, value: 7 }, Point { ts: 20, value: -3 }];
-    close(&mut levels, 30, refer(Addr(40), &points), &mut node);
-    assert_eq!(rt; levels.pending(0).len(), 1);
-    let points = [Point { ts: 20, value: 9 }];
-    close(&mut levels, 31, refer(Addr(41), &points), &mut node);
-    let whole = Summary {
-        count: 3,
-        begin: 10,
-        end: 20,
-        first: 7,
-        last: 9,
-        min: -3,
-        min_ts: 20,
-        max: 9,
-        max_ts: 20,
-        sum: 13,
-    };
-    let above = Ref {
-        addr: Addr(42),
-        first_leaf: Addr(40),
-        summary: whole,
-    };
-    assert_eq!(rt; node.refs().len(), 2);
-    assert_eq!(rt; levels.pending(0).len(), 0);
-    assert_eq!(rt; levels.pending(1).first().copied(), Some(above));
-    Ok(())
-}

@@ -1,5 +1,5 @@
 //! Opens a store, or makes one.
-ghost use Rattle.std.specs.Prelude.{ℕ, List, ◌≡◌, ◌⊎◌, ◌+◌, ◌*◌, ◌≤◌, [], false, Some, None, slice_index, IfOk, IfErr};
+ghost use Rattle.std.specs.Prelude.{ℕ, List, ◌≡◌, ◌⊎◌, ◌+◌, ◌*◌, ◌≤◌, [], false, Some, None, length, slice_index, IfOk, IfErr};
 ghost use Rattle.ak_base.specs.Ranges.{AreLimits};
 ghost use Rattle.ak_host.specs.Files.{Files};
 ghost use Rattle.ak_host.specs.Moments.{DiskPasses, LeavesNow};
@@ -7,11 +7,11 @@ ghost use Rattle.ak_image.specs.Blocks.{seen_in, AreThere};
 ghost use Rattle.ak_image.specs.Images.{IsSound, StandsFor};
 ghost use Rattle.ak_image.specs.Laid.{IsLaid};
 ghost use Rattle.ak_image.specs.Planted.{AreAllLawful, ArePlanted};
-ghost use Rattle.ak_meta.specs.Contents.{IsMeta, leaves_of, names_of, size_of};
+ghost use Rattle.ak_meta.specs.Contents.{IsMeta, names_of, size_of};
 ghost use Rattle.ak_node.specs.Opening.{IsFirst, IsFoundRecord, IsNodeOpenStop, KeepsOpened};
 ghost use Rattle.ak_node.specs.Standing.{CanServe, Stands};
 ghost use Rattle.ak_record.specs.Stops.{IsNoStore, IsTaken, IsMakeStop};
-ghost use Rattle.ak_repair.specs.Damage.{IsDamagedLeaf};
+ghost use Rattle.ak_repair.specs.Damage.{IsDamagedNode};
 ghost use Rattle.ak_repair.specs.Firsts.{firsts};
 ghost use Rattle.ak_repair.specs.Reads.{OnlyReads, IsReadStop};
 ghost use Rattle.ak_run.specs.Run.{world_of};
@@ -69,15 +69,15 @@ impl Waiting {
         })
     }
 
-    /// What a store of this record has, where what waits of each series is rebuilt from its live leaves, which are read from the
-    /// disk. `Disk` where a read failed, `Damaged` with the file and the block where a live block doesn't spell the leaf that is
-    /// named to stand there, and `Memory` where there is none.
+    /// What a store of this record has, where what waits of each series is rebuilt from its rescue addresses. `Disk` where a read
+    /// failed, `Damaged` with the file and the block where a live block doesn't spell the node that is named to stand there, and
+    /// `Memory` where there is none.
     fn repaired<D: Disk>(alloc: Global, disk: &mut D, meta: &Meta) -> Result<Waiting, Stop>
         requires rules { IsMeta meta.now }
         requires there { AreThere meta.now.ordinals (D.state disk.old) }
         ensures reads { OnlyReads D.tells (D.state disk.old) (D.state disk.new) }
         ensures stops { IfErr result (IsReadStop
-            (λ file block. D.tells → IsDamagedLeaf meta.now file block (D.state disk.old).files)
+            (λ file block. D.tells → IsDamagedNode meta.now file block (D.state disk.old).files)
             (D.state disk.old) (D.state disk.new)) }
         ensures lawful { IfOk result (λ waiting. AreAllLawful meta.now.series waiting.levels) }
         ensures planted { D.tells → (kept : List (List Leaf)) → IsLaid (seen_in meta.now.limits.volumes (D.state disk.old).files) meta.now kept
@@ -85,7 +85,7 @@ impl Waiting {
             meta.now.series kept (firsts meta.now.series kept) waiting.levels) }
         ensures sound { D.tells → (kept : List (List Leaf)) → IsLaid (seen_in meta.now.limits.volumes (D.state disk.old).files) meta.now kept
             → IfErr result (λ stop. (stop ≡ Stop.Disk) ⊎ (stop ≡ Stop.Memory)) }
-        ensures few { D.tells → (D.state disk.new).reads ≤ (D.state disk.old).reads + 2 * leaves_of meta.now.series }
+        ensures few { D.tells → (D.state disk.new).reads ≤ (D.state disk.old).reads + 341 * length meta.now.series }
     {
         let Ok(mut waiting) = Waiting::new(alloc) else {
             return Err(Stop::Memory);
@@ -169,14 +169,14 @@ impl Node {
         }
     }
 
-    /// Opens the newest view that the disk has. Each file is synced first. What waits of each series is rebuilt from its live
-    /// leaves.
+    /// Opens the newest view that the disk has. Each file is synced first. What waits of each series is rebuilt from its rescue
+    /// addresses.
     ///
     /// # Errors
     ///
     /// `NoStore` where file 0 isn't there, has an odd number of blocks or fewer than 4, or no gate is open. `Damaged` where the
     /// body of an open gate is no record, with file 0 and the block where that body begins, where the file of a volume is
-    /// missing or short, with that file and the number of its blocks, and where a live block doesn't spell the leaf that is
+    /// missing or short, with that file and the number of its blocks, and where a live block doesn't spell the node that is
     /// named to stand there, with its file and its place. `Disk` where a call of the disk failed. `Memory`.
     pub fn open<D: Disk>(alloc: Global, disk: &mut D) -> Result<Node, Stop>
         ensures err { IfErr result (IsNodeOpenStop D.tells (D.state disk.old) (D.state disk.new)) }
@@ -191,9 +191,9 @@ impl Node {
         ensures disk_later { (D.state disk.old).disk_faults ≤ (D.state disk.new).disk_faults }
         ensures port_faults { (D.state disk.new).port_faults ≡ (D.state disk.old).port_faults }
         ensures files { D.tells → (D.state disk.new).files ≡ (D.state disk.old).files }
-        // It makes no more reads than file 0 has blocks and twice those of the leaves, and writes nothing.
+        // It makes no more reads than file 0 has blocks and 341 for each series, and writes nothing.
         ensures reads { D.tells → IfOk result (λ node.
-            (D.state disk.new).reads ≤ (D.state disk.old).reads + slice_index (D.state disk.old).sizes 0 + 2 * leaves_of node.keeper.forest.meta.series) }
+            (D.state disk.new).reads ≤ (D.state disk.old).reads + slice_index (D.state disk.old).sizes 0 + 341 * length node.keeper.forest.meta.series) }
         ensures writes { D.tells → (D.state disk.new).writes ≡ (D.state disk.old).writes }
         ensures moments { D.tells → DiskPasses (LeavesNow (D.state disk.old)) (D.state disk.old) (D.state disk.new) }
     {

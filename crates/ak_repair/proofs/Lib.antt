@@ -1,6 +1,10 @@
 pub mod OnlyReading
 pub mod Linked
 pub mod Chained
-pub mod Entering
+pub mod ReadNodes
+pub mod Follow
+pub mod Levels
+pub mod Times
 pub mod Rebuilding
+pub mod Gathering
 pub mod Planting

@@ -1,29 +1,30 @@
 -- What waits of all series, one behind another.
-use Rattle.std.proofs.Common.{◌≡◌, ◌⊎◌, inl, inr, ◌∙◌, ℕ, zero, suc, ◌+◌, ◌-◌, ◌<◌, ◌≤◌, Result, Ok, Err, List, [], ◌∷◌, ◌++◌, length, drop, get_or, refl, sym, ap, subst, arith, append_assoc, append-nil}
+use Rattle.std.proofs.Common.{◌≡◌, ◌⊎◌, inl, inr, ◌∙◌, ℕ, zero, suc, ◌+◌, ◌-◌, ◌^◌, ◌<◌, ◌≤◌, Result, Ok, Err, List, [], ◌∷◌, ◌++◌, length, drop, get_or, refl, sym, ap, subst, arith, append_assoc, append-nil}
 use Rattle.std.proofs.Math.Seq.{drop-cons}
 use Rattle.std.proofs.lemmas.Bool.{cases_lt}
 use Rattle.std.specs.Result.{IfErr}
 use Rattle.ak_base.specs.declared.stop.Stop.{Stop}
 use Rattle.ak_base.specs.declared.stop.Stop.TheVariants.{Usage, Damaged, Disk, Port, Memory, Budget, Worn, NoStore, Exists}
+use Rattle.ak_forest.proofs.Arith.{fan_pos, made_none}
+use Rattle.ak_forest.specs.Numbers.{made}
 use Rattle.ak_host.specs.Files.{Files}
 use Rattle.ak_host.specs.Moments.{HostState}
 use Rattle.ak_image.specs.Blocks.{Seen, seen_in}
 use Rattle.ak_image.specs.Chains.{IsChain}
-use Rattle.ak_image.specs.Laid.{IsLaid, AreLaid, rescue_in}
+use Rattle.ak_image.proofs.Rescuing.{chain_in}
+use Rattle.ak_image.specs.Laid.{IsLaid, AreLaid, kept_in, series_in}
 use Rattle.ak_image.specs.Planted.{IsPlanted, ArePlanted, AreAllLawful}
 use Rattle.ak_image.specs.Scans.{IsScan}
 use Rattle.ak_image.specs.Trees.{IsTreeOf, AreTreed}
 use Rattle.ak_levels.specs.Entries.{AreLawful}
 use Rattle.ak_levels.specs.Pending.{Lists}
-use Rattle.ak_meta.proofs.Closing.{leaves_cons}
-use Rattle.ak_meta.specs.Contents.{Content, IsMeta, rescue_at, leaves_of}
-use Rattle.ak_meta.specs.Leaves.{leaves_at}
+use Rattle.ak_meta.specs.Contents.{Content, IsMeta, rescue_at}
 use Rattle.ak_meta.specs.declared.meta.SeriesMeta.{SeriesMeta}
-use Rattle.ak_repair.proofs.Chained.{laid_at, scan_alive, not_broken, at_some, leaves_at_place, rescue_in_place}
-use Rattle.ak_repair.specs.Damage.{IsDamagedLeaf}
+use Rattle.ak_repair.proofs.Rebuilding.{never_lost_of, rebuilt_planted}
+use Rattle.ak_repair.specs.Damage.{IsDamagedNode}
 use Rattle.ak_repair.specs.Firsts.{firsts}
+use Rattle.ak_repair.specs.Follows.{AreRebuilt, IsRebuilt, IsLost, IsLostOf, made_of, pending_of}
 use Rattle.ak_repair.specs.Reads.{IsReadStop}
-use Rattle.ak_repair.specs.Walks.{IsBroken}
 use Rattle.ak_volumes.specs.Ordinals.{Ordinals}
 use Rattle.ak_world.specs.Leaves.{Leaf}
 
@@ -52,11 +53,11 @@ none_left (s ∷ series) (suc i) past = none_left series i (omega arith)
 pushed_before : (v : Lists) (levels new more : List Lists) → new ≡ levels ++ v ∷ [] → levels ++ v ∷ more ≡ new ++ more
 pushed_before v levels new more pushed = sym (ap (λ (vs : List Lists). vs ++ more) pushed ∙ append_assoc levels (v ∷ []) more)
 
--- the leaves of the series from one on
-pub leaves_left : (series : List SeriesMeta) (i : ℕ) (known : SeriesMeta) → i < length series → known ≡ get_or series i known → leaves_of (drop i series) ≡ known.leaves + leaves_of (drop (i + 1) series)
-leaves_left series i known within is = ap leaves_of (parted_on series i known within is) ∙ leaves_cons known (drop (i + 1) series)
-
--- ---- Lawful ones
+-- the series in a place
+pub series_there : (all : List SeriesMeta) (n : ℕ) (known : SeriesMeta) → n < length all → known ≡ get_or all n known → series_in all n ≡ known
+series_there [] n known within is = absurd (omega arith)
+series_there (s ∷ all) zero known within is = sym is
+series_there (s ∷ all) (suc n) known within is = series_there all n known (omega arith) is
 
 -- what waits of so many series is lawful
 abbrev pub LawfulTo : List SeriesMeta → ℕ → List Lists → Type 0
@@ -73,6 +74,25 @@ lawful_all series i levels past so_far =
     let rest : AreAllLawful (drop i series) [] = subst (λ (ks : List SeriesMeta). AreAllLawful ks []) (sym (none_left series i past)) refl in
     subst (AreAllLawful series) (append-nil levels) (so_far [] rest)
 
+-- ---- Those that are rebuilt
+
+-- what waits of so many series is rebuilt
+abbrev pub RebuiltUpTo : Seen → Ordinals → List SeriesMeta → ℕ → List Lists → Type 0
+RebuiltUpTo seen o series i levels = (more : List Lists) → AreRebuilt seen o i (drop i series) more → AreRebuilt seen o 0 series (levels ++ more)
+
+pub rebuilt_more : (seen : Seen) (o : Ordinals) (series : List SeriesMeta) (i : ℕ) (known : SeriesMeta) (v : Lists) (levels new : List Lists) → i < length series → known ≡ get_or series i known → IsRebuilt seen o i known v → new ≡ levels ++ v ∷ []
+    → RebuiltUpTo seen o series i levels → RebuiltUpTo seen o series (i + 1) new
+rebuilt_more seen o series i known v levels new within is rebuilt pushed so_far more rest =
+    let next : i + 1 ≡ suc i = omega arith in
+    let behind : AreRebuilt seen o (suc i) (drop (i + 1) series) more = subst (λ (n : ℕ). AreRebuilt seen o n (drop (i + 1) series) more) next rest in
+    let all : AreRebuilt seen o i (drop i series) (v ∷ more) = subst (λ (ks : List SeriesMeta). AreRebuilt seen o i ks (v ∷ more)) (sym (parted_on series i known within is)) (rebuilt, behind) in
+    subst (AreRebuilt seen o 0 series) (pushed_before v levels new more pushed) (so_far (v ∷ more) all)
+
+pub rebuilt_all : (seen : Seen) (o : Ordinals) (series : List SeriesMeta) (i : ℕ) (levels : List Lists) → length series ≤ i → RebuiltUpTo seen o series i levels → AreRebuilt seen o 0 series levels
+rebuilt_all seen o series i levels past so_far =
+    let rest : AreRebuilt seen o i (drop i series) [] = subst (λ (ks : List SeriesMeta). AreRebuilt seen o i ks []) (sym (none_left series i past)) refl in
+    subst (AreRebuilt seen o 0 series) (append-nil levels) (so_far [] rest)
+
 -- ---- Those that belong to the blocks
 
 -- So many series are planted: whatever is planted behind them, all are.
@@ -88,6 +108,9 @@ planted_begins seen c kept laid = record { rest = kept; laid = laid.leaves; tree
 -- what waits of one series belongs to its blocks
 abbrev pub Grows : Seen → Ordinals → ℕ → SeriesMeta → Lists → Type 0
 Grows seen o n known v = (leaves : List Leaf) → IsScan seen n o.lo o.fills leaves → IsChain seen o.lo n known leaves → IsTreeOf o seen n known leaves → IsPlanted o seen n known leaves (known.leaves - length leaves) v
+
+pub rebuilt_grows : (seen : Seen) (o : Ordinals) (n : ℕ) (known : SeriesMeta) (v : Lists) → known.leaves < 32 ^ 11 → length v.pending ≡ 11 → IsRebuilt seen o n known v → Grows seen o n known v
+rebuilt_grows seen o n known v few levels rebuilt leaves scan chain tree = rebuilt_planted o seen n known leaves v few levels chain tree rebuilt
 
 pub grows_same : (count : ℕ) (files read : Files) (o p : Ordinals) (n : ℕ) (known : SeriesMeta) (v : Lists) → read ≡ files → p ≡ o → o.volumes ≡ count → Grows (seen_in p.volumes read) p n known v → Grows (seen_in count files) o n known v
 grows_same count files read o p n known v still same volumes grows =
@@ -134,28 +157,47 @@ planted_all o seen series kept i levels past so_far =
 
 -- ---- Sound disks
 
-leaves_past : (all : List SeriesMeta) (n : ℕ) → length all ≤ n → leaves_at all n ≡ 0
+tree_in : (o : Ordinals) (seen : Seen) (k n : ℕ) (series : List SeriesMeta) (kept : List (List Leaf)) → n < length series → AreTreed o seen k series kept → IsTreeOf o seen (k + n) (series_in series n) (kept_in kept n)
+tree_in o seen k n [] kept within are = absurd (omega arith)
+tree_in o seen k n (s ∷ series) [] within are = absurd are
+tree_in o seen k zero (s ∷ series) (leaves ∷ kept) within are = let same : k ≡ k + 0 = omega arith in subst (λ (x : ℕ). IsTreeOf o seen x s leaves) same are.0
+tree_in o seen k (suc n) (s ∷ series) (leaves ∷ kept) within are =
+    let same : suc k + n ≡ k + suc n = omega arith in
+    subst (λ (x : ℕ). IsTreeOf o seen x (series_in series n) (kept_in kept n)) same (tree_in o seen (suc k) n series kept (omega arith) are.1)
+
+leaves_past : (all : List SeriesMeta) (n : ℕ) → length all ≤ n → (series_in all n).leaves ≡ 0
 leaves_past [] n past = refl
 leaves_past (s ∷ all) zero past = absurd (omega arith)
 leaves_past (s ∷ all) (suc n) past = leaves_past all n (omega arith)
 
--- no leaf of a laid disk is damaged
-pub never_damaged : (c : Content) (files : Files) (kept : List (List Leaf)) (file block : ℕ) → IsMeta c → IsLaid (seen_in c.limits.volumes files) c kept → IsDamagedLeaf c file block files → ⊥
-never_damaged c files kept file block meta laid damaged =
-    let n = damaged.0 in
+lost_none : (seen : Seen) (o : Ordinals) (series level left number at file block : ℕ) → left ≡ 0 → IsLost seen o series level left number at file block → ⊥
+lost_none seen o series level zero number at file block none lost = lost
+lost_none seen o series level (suc left) number at file block none lost = omega (arith, none)
+
+-- a lost node of one of them is damaged
+pub lost_damaged : (c : Content) (files read : Files) (o : Ordinals) (n : ℕ) (known : SeriesMeta) (file block : ℕ) → o ≡ c.ordinals → read ≡ files → series_in c.series n ≡ known
+    → IsLostOf (seen_in o.volumes read) o n known file block → IsDamagedNode c file block files
+lost_damaged c files read o n known file block same still here lost = (
+  n,
+  subst (λ (k : SeriesMeta). IsLostOf (seen_in c.ordinals.volumes files) c.ordinals n k file block) (sym here)
+      (subst (λ (v : Ordinals). IsLostOf (seen_in v.volumes files) v n known file block) same (subst (λ (f : Files). IsLostOf (seen_in o.volumes f) o n known file block) still lost)),
+)
+
+-- no node of a laid disk is damaged
+pub never_damaged : (c : Content) (files : Files) (kept : List (List Leaf)) (file block : ℕ) → IsMeta c → IsLaid (seen_in c.limits.volumes files) c kept → IsDamagedNode c file block files → ⊥
+never_damaged c files kept file block meta laid (n, lost) =
     let seen : Seen = seen_in c.limits.volumes files in
+    let there : IsLostOf seen c.ordinals n (series_in c.series n) file block = subst (λ (m : ℕ). IsLostOf (seen_in m files) c.ordinals n (series_in c.series n) file block) meta.volumes lost in
     elim (cases_lt n (length c.series)) [
       | inl within ↦
-          let known = at_some c.series n within in
-          let here = laid_at seen c.ordinals.lo c.ordinals.fills 0 n n c.series kept known.0 (omega arith) laid.leaves known.1 in
-          let broken : IsBroken seen c.ordinals n (leaves_at c.series n) (rescue_in c.series n) file block =
-          subst (λ (m : ℕ). IsBroken (seen_in m files) c.ordinals n (leaves_at c.series n) (rescue_in c.series n) file block) meta.volumes damaged.1 in
-          let counted : IsBroken seen c.ordinals n known.0.leaves (rescue_in c.series n) file block =
-          subst (λ (m : ℕ). IsBroken seen c.ordinals n m (rescue_in c.series n) file block) (leaves_at_place c.series n known.0 known.1) broken in
-          let there : IsBroken seen c.ordinals n known.0.leaves (rescue_at known.0.rescue 0) file block =
-          subst (λ (m : ℕ). IsBroken seen c.ordinals n known.0.leaves m file block) (rescue_in_place c.series n known.0 known.1) counted in
-          not_broken (scan_alive seen c.ordinals n known.0 here.leaves meta.ordinals_are here.scan here.chain) there
-      | inr past ↦ omega (arith, damaged.1.walk.count_is, leaves_past c.series n past)
+          never_lost_of c.ordinals seen n (series_in c.series n) (kept_in kept n) file block
+          (let same : 0 + n ≡ n = omega arith in subst (λ (x : ℕ). IsChain seen c.ordinals.lo x (series_in c.series n) (kept_in kept n)) same (chain_in seen c.ordinals.lo c.ordinals.fills 0 n c.series kept within laid.leaves))
+          (let same : 0 + n ≡ n = omega arith in subst (λ (x : ℕ). IsTreeOf c.ordinals seen x (series_in c.series n) (kept_in kept n)) same (tree_in c.ordinals seen 0 n c.series kept within laid.trees))
+          there
+      | inr past ↦
+          let none : made 32 there.0 (series_in c.series n).leaves ≡ 0 = made_none 32 there.0 (series_in c.series n).leaves (omega arith) (omega (arith, leaves_past c.series n past, fan_pos 32 there.0 (omega arith))) in
+          lost_none seen c.ordinals n there.0 (pending_of (series_in c.series n).leaves there.0) (made_of (series_in c.series n).leaves there.0) (rescue_at (series_in c.series n).rescue there.0) file block
+          (omega (arith, none)) there.2
     ]
 
 disk_or_memory : {P : ℕ → ℕ → Type 0} (old new : HostState) (stop : Stop) → ((file block : ℕ) → P file block → ⊥) → IsReadStop P old new stop → (stop ≡ Disk) ⊎ (stop ≡ Memory)

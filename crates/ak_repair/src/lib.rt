@@ -1,6 +1,7 @@
-//! What waits of each series in memory, rebuilt from its live leaves as a store is opened.
+//! What waits of each series in memory, rebuilt from its rescue addresses as a store is opened.
 #![tactic(auto)]
 
+mod following;
 mod repairing;
 mod walking;
 

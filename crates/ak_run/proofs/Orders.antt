@@ -13,7 +13,7 @@ use Rattle.ak_world.proofs.Opened.{opened_valid}
 use Rattle.ak_world.proofs.Valid.{held_now, views_more, named_held}
 use Rattle.ak_world.specs.Leaves.{Series, is_fit, with_point, closed_at, leaf_at}
 use Rattle.ak_world.specs.Puts.{with_name, with_names, number_in, named, refusal_of, all_accepted, after_points}
-use Rattle.ak_world.specs.Steps.{written_in, is_empty, is_full, switch, with_room, entered, group_of, closed, unless_worn, made_fit, oldest, made_room, added, in_time, accepted, closed_from, flushed}
+use Rattle.ak_world.specs.Steps.{written_in, is_empty, switch, with_room, entered, group_of, closed, unless_worn, made_fit, oldest, made_room, added, in_time, accepted, closed_from, flushed}
 use Rattle.ak_world.specs.Valid.{AreOpenable, IsPrefix}
 use Rattle.ak_world.specs.Views.{View, IsIn}
 use Rattle.ak_world.specs.Worlds.{World as Store, world_of as opened, views_of, limits_of, worn_world, next_view, after_view}
@@ -36,7 +36,7 @@ view_orderly w is =
 switch_orderly : (w : Store) → Orderly w → Orderly (switch w)
 switch_orderly w is =
     let new : Store = record w { ordinals = switched w.ordinals } in
-    either ((newest w.ordinals == 2 ^ 32 - 1) || is_full w.ordinals) (worn_world w) (after_view new) is (view_orderly new is)
+    either (newest w.ordinals == 2 ^ 32 - 1) (worn_world w) (after_view new) is (view_orderly new is)
 
 -- ---- Closing
 

@@ -102,36 +102,53 @@ fn more_series_than_frames(rt: HostRuntime) -> Result<(), Fail> {
     Ok(())
 }
 
+// The answer to a query of points whose times are their values, from one time on and below another.
+fn rows_between(alloc: Global, from: u64, to: u64) -> Result<Bytes, AllocError> {
+    let mut text = Bytes::new(alloc);
+    for time in from..to {
+        text.extend(alloc, b"cpu,")?;
+        text.extend_decimal(alloc, time)?;
+        text.extend(alloc, b",")?;
+        text.extend_decimal(alloc, time)?;
+        text.extend(alloc, b"\n")?;
+    }
+    let mut answer = Bytes::new(alloc);
+    answer.extend(alloc, b"$")?;
+    answer.extend_decimal(alloc, text.as_slice().len() as u64)?;
+    answer.extend(alloc, b"\r\n")?;
+    answer.extend(alloc, text.as_slice())?;
+    answer.extend(alloc, b"\r\n")?;
+    Ok(answer)
+}
+
+// How many reads a run makes that does nothing but open the store.
+fn reads_of_opening<R: Abort>(rt: &R, alloc: Global, host: &mut MemHost) -> Result<u64, Fail> {
+    let status = call(alloc, host, RUN, b"")?;
+    assert_eq!(rt; status, 0);
+    Ok(host.reads())
+}
+
 // Leaves 0 to 15 fill ordinal 0, and leaves 16 to 30 all but one block of ordinal 1. The group of leaf 31 has two blocks, and
-// no volume is left for another ordinal.
+// ordinal 2 takes the place of ordinal 0. So the leaves 0 to 15 are lost, and an opening reads the node of level 1 alone. Leaf 46
+// gives up ordinal 1. An opening reads that node again, and the 16 leaves behind it.
 #[test]
-fn a_used_up_store_is_worn(rt: HostRuntime) -> Result<(), Fail> {
+fn the_oldest_volume_is_reused(rt: HostRuntime) -> Result<(), Fail> {
     let alloc = rt.alloc();
     let mut host = made(&rt, alloc, CREATE)?;
-    let mut stream = Bytes::new(alloc);
-    let mut told = Bytes::new(alloc);
-    for time in 1..33 {
-        stream.extend(alloc, b"+cpu\r\n:")?;
-        stream.extend_decimal(alloc, time)?;
-        stream.extend(alloc, b"\r\n:0\r\n+!flush\r\n")?;
-        if time < 32 {
-            told.extend(alloc, b"+OK\r\n")?;
-        }
-    }
-    let status = call(alloc, &mut host, RUN, stream.as_slice())?;
-    assert_eq!(rt; status, 7);
-    assert_eq!(rt; host.told(0), b"akl: store worn\n".as_slice());
-    assert_eq!(rt; host.told(1), told.as_slice());
-    let zeros: [&[u8]; 2] = [b"0", b"0"];
-    let answer = rows(alloc, 31, zeros)?;
-    shows(
-        &rt,
-        alloc,
-        &host,
-        last_moment(&host),
-        &[],
-        answer.as_slice(),
-    )
+    let _ = reads_of_opening(&rt, alloc, &mut host)?;
+    let least = reads_of_opening(&rt, alloc, &mut host)?;
+    flushed(&rt, alloc, &mut host, 1, 33)?;
+    let reads = reads_of_opening(&rt, alloc, &mut host)?;
+    assert_eq!(rt; reads.saturating_sub(least), 1);
+    let answer = rows_between(alloc, 17, 33)?;
+    let end = last_moment(&host);
+    shows(&rt, alloc, &host, end, &[], answer.as_slice())?;
+    flushed(&rt, alloc, &mut host, 33, 49)?;
+    let reads = reads_of_opening(&rt, alloc, &mut host)?;
+    assert_eq!(rt; reads.saturating_sub(least), 17);
+    let answer = rows_between(alloc, 32, 49)?;
+    let end = last_moment(&host);
+    shows(&rt, alloc, &host, end, &[], answer.as_slice())
 }
 
 // 31 series with names of 20 bytes take 3970 of the 4096 bytes of a slot. One with 21 bytes is refused, and one with 20
@@ -293,5 +310,31 @@ fn an_inner_node_over_two_runs(rt: HostRuntime) -> Result<(), Fail> {
         assert_eq!(rt; r.addr, Addr(i as u64));
         assert_eq!(rt; r.summary.sum, i as i128 + 1);
     }
+    Ok(())
+}
+
+// A block of file 1 is overwritten. Gives whether it is there.
+fn zeroed(alloc: Global, host: &mut MemHost, index: u32) -> Result<bool, AllocError> {
+    host.load(alloc, &[], &[])?;
+    if is_block(host, 1, index) && host.moments() == 1 {
+        host.plant(1, index, &[0; 4096]);
+        return Ok(true);
+    }
+    Ok(false)
+}
+
+// An inner node that was overwritten is told as the store is opened. A leaf under it isn't read then, but by a query.
+#[test]
+fn a_zeroed_node_is_told(rt: HostRuntime) -> Result<(), Fail> {
+    let alloc = rt.alloc();
+    let mut host = made(&rt, alloc, CREATE_WIDER)?;
+    flushed(&rt, alloc, &mut host, 1, 33)?;
+    assert!(rt; zeroed(alloc, &mut host, 5)?);
+    assert_eq!(rt; call(alloc, &mut host, RUN, b"")?, 0);
+    assert_eq!(rt; call(alloc, &mut host, RUN, QUERY)?, 2);
+    assert_eq!(rt; host.told(0), b"akl: damaged file 1 block 5\n".as_slice());
+    assert!(rt; zeroed(alloc, &mut host, 32)?);
+    assert_eq!(rt; call(alloc, &mut host, RUN, b"")?, 2);
+    assert_eq!(rt; host.told(0), b"akl: damaged file 1 block 32\n".as_slice());
     Ok(())
 }

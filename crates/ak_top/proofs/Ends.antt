@@ -13,7 +13,7 @@ use Rattle.ak_host.specs.Marks.{Mark, Taken, done, Telling, told_to}
 use Rattle.ak_host.specs.Moments.{HostState, Passes, DiskPasses, PortPasses, HoldsFrom, mark_now}
 use Rattle.ak_host.proofs.Passing.{passes_weaker, mark_holds, holds_here, holds_on}
 use Rattle.ak_node.specs.Calls.{Begins, Told, IsSilent}
-use Rattle.ak_repair.specs.Damage.{IsDamagedLeaf}
+use Rattle.ak_repair.specs.Damage.{IsDamagedBlock}
 use Rattle.ak_record.specs.Stops.{IsTaken}
 use Rattle.ak_world.specs.Views.{View}
 use Rattle.ak_words.specs.Words.{IsCommand}
@@ -315,7 +315,7 @@ end_later words told old mid new (Damaged file block) cause disk port files line
         newest = leaf.newest;
         now = leaf.now;
         becomes = leaf.becomes;
-        damaged = subst (IsDamagedLeaf leaf.now file block) (sym (files t)) leaf.damaged;
+        damaged = subst (IsDamagedBlock leaf.now file block) (sym (files t)) leaf.damaged;
       }),
     )
 end_later words told old mid new Disk cause disk port files line = subst (Rose old.disk_faults) (sym disk) cause

@@ -72,7 +72,7 @@ served_run told number was old mid new Memory found disk port worn (inl why) = t
 served_run told number was old mid new Disk found disk port worn (inl why) = omega (arith, why.1, disk)
 served_run told number was old mid new Port found disk port worn (inl why) = omega (arith, why.1, port)
 served_run told number was old mid new (Worn ordinal fill last) found disk port worn (inl why) = worn
-served_run told number was old mid new (Damaged file block) found disk port worn (inl why) = λ t. let leaf = why.1 t in inr (record { number = number; found = was; newest = found t; now = why.0; becomes = leaf.0; damaged = leaf.1 })
+served_run told number was old mid new (Damaged file block) found disk port worn (inl why) = λ t. let leaf = why.1 t in inr (record { number = number; found = was; newest = found t; now = why.0; becomes = leaf.0; damaged = inr leaf.1 })
 served_run told number was old mid new Usage found disk port worn (inl why) = absurd why.1
 served_run told number was old mid new Budget found disk port worn (inl why) = absurd why.1
 served_run told number was old mid new NoStore found disk port worn (inl why) = absurd why.1
@@ -85,7 +85,7 @@ open_run told old new NoStore why = why
 open_run told old new (Damaged file block) why = λ t. damage (why t) where
   damage : IsDamaged file block old.files ⊎ IsDamagedByFound old new file block → IsDamaged file block old.files ⊎ IsDamagedIn old new file block
   damage (inl at) = inl at
-  damage (inr leaf) = inr (record { number = leaf.0; found = leaf.1; newest = leaf.2; now = leaf.1; becomes = becomes_same leaf.1; damaged = leaf.3 })
+  damage (inr leaf) = inr (record { number = leaf.0; found = leaf.1; newest = leaf.2; now = leaf.1; becomes = becomes_same leaf.1; damaged = inl leaf.3 })
 open_run told old new Disk why = why
 open_run told old new Memory why = tt
 open_run told old new Usage why = absurd why

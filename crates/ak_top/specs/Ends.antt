@@ -10,7 +10,7 @@ use Rattle.ak_host.specs.Moments.{HostState, mark_now}
 use Rattle.ak_image.specs.Images.{IsSound, StandsFor}
 use Rattle.ak_meta.specs.Contents.{Content}
 use Rattle.ak_node.specs.Calls.{console_of}
-use Rattle.ak_repair.specs.Damage.{IsDamagedLeaf}
+use Rattle.ak_repair.specs.Damage.{IsDamagedBlock}
 use Rattle.ak_node.specs.Opening.{IsFoundRecord}
 use Rattle.ak_record.specs.Stops.{IsNoStore, IsTaken, IsDamaged}
 use Rattle.ak_tree.specs.Later.{Becomes}
@@ -29,9 +29,9 @@ pub record IsDamagedIn (old new : HostState) (file block : ℕ) : Type 0 where
   pub newest : IsFoundRecord number found old.files
   pub now : Content
   pub becomes : Becomes found now
-  pub damaged : IsDamagedLeaf now file block new.files
+  pub damaged : IsDamagedBlock now file block new.files
 
--- What was damaged, for `run`: what an opening reads, or a leaf that was read in a turn.
+-- What was damaged, for `run`: what an opening reads, or a block that was read in the call.
 abbrev pub IsRunDamage : List (List ℕ) → HostState → HostState → ℕ → ℕ → Type 0
 IsRunDamage words old new file block = IsRun words × (IsDamaged file block old.files ⊎ IsDamagedIn old new file block)
 

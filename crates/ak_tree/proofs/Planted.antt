@@ -1,7 +1,6 @@
 -- What waits of each series, and the blocks that it belongs to.
-use Rattle.std.proofs.Common.{◌≡◌, ℕ, zero, suc, ◌+◌, ◌-◌, ◌*◌, ◌^◌, ◌<◌, ◌≤◌, Bool, false, List, [], ◌∷◌, ◌++◌, length, drop, get_or, refl, sym, ap, subst, arith}
+use Rattle.std.proofs.Common.{◌≡◌, ℕ, zero, suc, ◌-◌, ◌*◌, ◌^◌, ◌<◌, ◌≤◌, List, [], ◌∷◌, ◌++◌, length, get_or, refl, sym, ap, subst, arith}
 use Rattle.std.proofs.Math.Nat.{mul-le-mul_right}
-use Rattle.std.specs.Prelude.{if◌then◌else◌}
 use Rattle.ak_image.specs.Blocks.{Seen}
 use Rattle.ak_image.specs.Planted.{ArePlanted, AreAllLawful}
 use Rattle.ak_levels.proofs.Lawful.{no_lists_lawful}
@@ -12,10 +11,8 @@ use Rattle.ak_meta.specs.Contents.{Content, IsMeta}
 use Rattle.ak_meta.specs.Leaves.{new_series, leaves_at}
 use Rattle.ak_meta.specs.declared.meta.SeriesMeta.{SeriesMeta}
 use Rattle.ak_image.proofs.Growing.{planted_begun as planted_first, planted_same as planted_agrees}
-use Rattle.ak_tree.proofs.Becoming.{becomes_switched}
-use Rattle.ak_volumes.specs.Ordinals.{Ordinals, IsLive, newest, newest_fill, switched}
+use Rattle.ak_volumes.specs.Ordinals.{Ordinals, IsLive, newest, newest_fill}
 use Rattle.ak_world.specs.Leaves.{Leaf}
-use Rattle.ak_world.specs.Steps.{is_full}
 
 -- ---- What waits is lawful
 
@@ -54,16 +51,6 @@ all_agree o other seen later n (known ∷ others) (leaves ∷ kept) (base ∷ ba
 pub all_same : (o : Ordinals) (seen later : Seen) (n : ℕ) (series : List SeriesMeta) (kept : List (List Leaf)) (bases : List ℕ) (levels : List Lists) → ((a : ℕ) → later a ≡ seen a)
     → ArePlanted o seen n series kept bases levels → ArePlanted o later n series kept bases levels
 all_same o seen later n series kept bases levels same are = all_agree o o seen later n series kept bases levels refl (λ a live. (live, same a)) are
-
--- an ordinal that begins in no other's place
-lo_stays : (o : Ordinals) → is_full o ≡ false → (switched o).lo ≡ o.lo
-lo_stays o free = ap (λ (b : Bool). (if b then record o { lo = o.lo + 1; fills = drop 1 o.fills ++ 0 ∷ [] } else record o { fills = o.fills ++ 0 ∷ [] }).lo) free
-
-pub all_switched : (c : Content) (seen : Seen) (n : ℕ) (kept : List (List Leaf)) (bases : List ℕ) (levels : List Lists) → is_full c.ordinals ≡ false
-    → ArePlanted c.ordinals seen n c.series kept bases levels → ArePlanted (switched c.ordinals) seen n c.series kept bases levels
-all_switched c seen n kept bases levels free are =
-    let lo = lo_stays c.ordinals free in
-    all_agree c.ordinals (switched c.ordinals) seen seen n c.series kept bases levels lo (λ a live. ((becomes_switched c).live a live (omega (arith, lo, live.ordinal.from)), refl)) are
 
 -- a series more
 pub all_named : (o : Ordinals) (seen : Seen) (n : ℕ) (series : List SeriesMeta) (kept : List (List Leaf)) (bases : List ℕ) (levels : List Lists) (name : List ℕ) → ArePlanted o seen n series kept bases levels

@@ -1,9 +1,9 @@
 -- Worlds whose view is saved, and the forests that hold them.
 use Rattle.std.proofs.Common.{◌≡◌, inl, inr, ℕ, ◌+◌, ◌-◌, ◌^◌, ◌<◌, ◌≤◌, Bool, true, false, List, [], ◌∷◌, length, map, get_or, Option, Some, None, Result, Ok, Err, OnOk, refl, sym, ◌∙◌, ap, subst, arith}
-use Rattle.std.proofs.lemmas.Bool.{lt-leb, le-leb, le-ltb, ne_eqb}
+use Rattle.std.proofs.lemmas.Bool.{lt-leb, le-leb, ne_eqb}
 use Rattle.std.proofs.lemmas.Nat.{mod_below}
 use Rattle.std.specs.List.{AllByRecursion}
-use Rattle.std.specs.Prelude.{◌==◌, ◌||◌, if◌then◌else◌}
+use Rattle.std.specs.Prelude.{◌==◌, if◌then◌else◌}
 use Rattle.ak_base.specs.declared.stop.Stop.{Stop}
 use Rattle.ak_base.specs.declared.stop.Stop.TheVariants.{Worn}
 use Rattle.ak_checkpoint.specs.Saving.{Saving, IsSaving, IsSavedOver}
@@ -19,8 +19,8 @@ use Rattle.ak_pool.specs.Frames.{Frames, Used}
 use Rattle.ak_pool.specs.declared.pool.Frame.{Frame}
 use Rattle.ak_record.specs.Records.{frame_for, frame_bytes, HasNewest, Rests}
 use Rattle.ak_volumes.specs.Ordinals.{Ordinals, newest, newest_fill, file_of, switched}
-use Rattle.ak_world.specs.Leaves.{Leaf}
-use Rattle.ak_world.specs.Steps.{is_full, switch, written_in}
+use Rattle.ak_world.specs.Leaves.{Leaf, kept_from}
+use Rattle.ak_world.specs.Steps.{switch, written_in}
 use Rattle.ak_world.specs.Valid.{IsWorld}
 use Rattle.ak_world.specs.Views.{View, IsIn}
 use Rattle.ak_world.specs.Worlds.{World, views_of, worn_world, content_now, kept_now, next_view, after_view}
@@ -49,13 +49,10 @@ after_last w last = ap (λ (b : Bool). if b then worn_world w else saved_world w
 abbrev pub with_ordinal : World → World
 with_ordinal w = record w { ordinals = switched w.ordinals }
 
-or_of : (x y : Bool) → x ≡ false → y ≡ false → (x || y) ≡ false
-or_of x y one two = λ i. one i || two i
-
-pub switch_free : (w : World) → newest w.ordinals < 2 ^ 32 - 1 → is_full w.ordinals ≡ false → switch w ≡ after_view (with_ordinal w)
-switch_free w below free =
+pub switch_begins : (w : World) → newest w.ordinals < 2 ^ 32 - 1 → switch w ≡ after_view (with_ordinal w)
+switch_begins w below =
     let test : (newest w.ordinals == 2 ^ 32 - 1) ≡ false = ne_eqb (newest w.ordinals) (2 ^ 32 - 1) (λ e. absurd (omega (arith, e, below))) in
-    ap (λ (b : Bool). if b then worn_world w else after_view (with_ordinal w)) (or_of (newest w.ordinals == 2 ^ 32 - 1) (is_full w.ordinals) test free)
+    ap (λ (b : Bool). if b then worn_world w else after_view (with_ordinal w)) test
 
 -- ---- Views of it
 
@@ -89,15 +86,15 @@ view_passes w c old new below content_is run =
     subst (λ (v : World). DiskPasses (LeavesView w v) old new) (sym (after_saved w below))
     (disk_weaker run (λ disk is. leaves_view w w refl refl disk (subst (λ (v : View). LeavesSaved w.last v disk) next is)))
 
-pub switch_is : (w : World) → newest w.ordinals < 2 ^ 32 - 1 → is_full w.ordinals ≡ false → w.last.number < 2 ^ 64 - 1 → switch w ≡ saved_world (with_ordinal w)
-switch_is w below free least = switch_free w below free ∙ after_saved (with_ordinal w) least
+pub switch_is : (w : World) → newest w.ordinals < 2 ^ 32 - 1 → w.last.number < 2 ^ 64 - 1 → switch w ≡ saved_world (with_ordinal w)
+switch_is w below least = switch_begins w below ∙ after_saved (with_ordinal w) least
 
-pub switch_passes : (w : World) (c : Content) (old new : HostState) → newest w.ordinals < 2 ^ 32 - 1 → is_full w.ordinals ≡ false → w.last.number < 2 ^ 64 - 1 → c ≡ content_now (with_ordinal w)
-    → DiskPasses (LeavesSaved w.last (view_behind w.last c (kept_now w))) old new → DiskPasses (LeavesView w (switch w)) old new
-switch_passes w c old new below free least content_is run =
+pub switch_passes : (w : World) (c : Content) (old new : HostState) → newest w.ordinals < 2 ^ 32 - 1 → w.last.number < 2 ^ 64 - 1 → c ≡ content_now (with_ordinal w)
+    → DiskPasses (LeavesSaved w.last (view_behind w.last c (kept_now (with_ordinal w)))) old new → DiskPasses (LeavesView w (switch w)) old new
+switch_passes w c old new below least content_is run =
     let u : World = with_ordinal w in
-    let next = next_is u c (kept_now w) content_is (sym (kept_switched w free)) in
-    subst (λ (v : World). DiskPasses (LeavesView w v) old new) (sym (switch_is w below free least))
+    let next = next_is u c (kept_now u) content_is refl in
+    subst (λ (v : World). DiskPasses (LeavesView w v) old new) (sym (switch_is w below least))
     (disk_weaker run (λ disk is. leaves_view w u refl refl disk (subst (λ (v : View). LeavesSaved w.last v disk) next is)))
 
 -- ---- Forests
@@ -133,21 +130,20 @@ holds_view w f g host keeps below same number stored =
 abbrev pub content_switched : Content → Content
 content_switched c = record c { ordinals = switched c.ordinals }
 
-pub holds_switch : (w : World) (f g : Trees) (host : HostState) → Keeps w f → newest w.ordinals < 2 ^ 32 - 1 → is_full w.ordinals ≡ false → w.last.number < 2 ^ 64 - 1
+pub holds_switch : (w : World) (f g : Trees) (host : HostState) → Keeps w f → newest w.ordinals < 2 ^ 32 - 1 → w.last.number < 2 ^ 64 - 1
     → g ≡ record f { meta = content_switched f.meta; check = g.check; since = 0 } → g.check.number ≡ f.check.number + 1
-    → IsStored (view_behind w.last (content_switched f.meta) (kept_now w)) (content_switched f.meta) (kept_now w) (bases_of w) f.levels (file_of (switched w.ordinals) (newest (switched w.ordinals))) host → Holds (switch w) g host
-holds_switch w f g host keeps below free least same number stored =
+    → IsStored (view_behind w.last (content_switched f.meta) (kept_now (with_ordinal w))) (content_switched f.meta) (kept_now (with_ordinal w)) (bases_of w) f.levels (file_of (switched w.ordinals) (newest (switched w.ordinals))) host → Holds (switch w) g host
+holds_switch w f g host keeps below least same number stored =
     let u : World = with_ordinal w in
-    let is = switch_is w below free least in
+    let is = switch_is w below least in
     let content_is : content_switched f.meta ≡ content_now u = ap content_switched keeps.content_is in
     let whole : (switch w).worn ≡ false = ap (λ (v : World). v.worn) is ∙ keeps.not_worn in
     let valid : IsWorld (saved_world u) = subst IsWorld is (switch_valid w keeps.valid whole) in
     let kept = keeps_saved u (record f { meta = content_switched f.meta }) g.check keeps.not_worn valid content_is (omega (arith, number, keeps.number_is)) keeps.recent_is keeps.open_leaves keeps.others in
-    let stored_kept = subst (λ (kept : List (List Leaf)). IsStored (view_behind w.last (content_switched f.meta) kept) (content_switched f.meta) kept (bases_of w) f.levels (file_of u.ordinals (newest u.ordinals)) host) (sym (kept_switched w free)) stored in
     subst (λ (v : World). Holds v g host) (sym is) (record {
       keeps = subst (Keeps (saved_world u)) (sym same) kept;
       stored = subst (λ (levels : List Lists). IsStored (next_view u) (content_now u) (kept_now u) (bases_of w) levels (file_of u.ordinals (newest u.ordinals)) host) (sym (ap (λ (t : Trees). t.levels) same))
-          (subst (λ (c : Content). IsStored (view_behind w.last c (kept_now u)) c (kept_now u) (bases_of w) f.levels (file_of u.ordinals (newest u.ordinals)) host) content_is stored_kept);
+          (subst (λ (c : Content). IsStored (view_behind w.last c (kept_now u)) c (kept_now u) (bases_of w) f.levels (file_of u.ordinals (newest u.ordinals)) host) content_is stored);
     })
 
 -- ---- Worn stores
@@ -226,21 +222,19 @@ module _ (w : World) (f : Trees) (file : ℕ) (old new : HostState) (holds : Hol
   pub view_leaves : f.check.number < 2 ^ 64 - 1 → SavingPasses f.meta file f.check.number old new → DiskPasses (LeavesView w (after_view w)) old new
   view_leaves least run = view_passes w f.meta old new (omega (arith, holds.keeps.number_is, least)) holds.keeps.content_is (run w.last (kept_now w) (bases_of w) f.levels stored_here (sym holds.keeps.number_is))
 
-  module _ (rules : IsMeta f.meta) (below : newest f.meta.ordinals < 2 ^ 32 - 1) (free : length f.meta.ordinals.fills ≡ f.meta.limits.volumes → ⊥) (h : Trees) (begun_is : h ≡ record f { meta = content_switched f.meta }) where
-    has_free : is_full f.meta.ordinals ≡ false
-    has_free = le-ltb f.meta.ordinals.volumes (length f.meta.ordinals.fills + 1) (omega (arith, rules.ordinals_are.most, rules.volumes, free))
-
+  module _ (rules : IsMeta f.meta) (below : newest f.meta.ordinals < 2 ^ 32 - 1) (h : Trees) (begun_is : h ≡ record f { meta = content_switched f.meta }) where
     ordinals_are : f.meta.ordinals ≡ w.ordinals
     ordinals_are = ap (λ (c : Content). c.ordinals) holds.keeps.content_is
 
-    world_free : is_full w.ordinals ≡ false
-    world_free = ap is_full (sym ordinals_are) ∙ has_free
+    kept_is : kept_from (switched f.meta.ordinals).lo (kept_now w) ≡ kept_now (with_ordinal w)
+    kept_is = ap (λ (o : Ordinals). kept_from (switched o).lo (kept_now w)) ordinals_are ∙ sym (kept_switched w)
 
     world_below : newest w.ordinals < 2 ^ 32 - 1
     world_below = subst (λ (o : Ordinals). newest o < 2 ^ 32 - 1) ordinals_are below
 
-    stored_begun : IsStored w.last h.meta (kept_now w) (bases_of w) f.levels file old
-    stored_begun = subst (λ (t : Trees). IsStored w.last t.meta (kept_now w) (bases_of w) f.levels file old) (sym begun_is) (stored_switched w.last f.meta (kept_now w) (bases_of w) f.levels file old stored_here rules has_free)
+    stored_begun : IsStored w.last h.meta (kept_now (with_ordinal w)) (bases_of w) f.levels file old
+    stored_begun = subst (λ (t : Trees). IsStored w.last t.meta (kept_now (with_ordinal w)) (bases_of w) f.levels file old) (sym begun_is)
+        (subst (λ (kept : List (List Leaf)). IsStored w.last (content_switched f.meta) kept (bases_of w) f.levels file old) kept_is (stored_switched w.last f.meta (kept_now w) (bases_of w) f.levels file old stored_here rules))
 
     check_is : h.check.number ≡ f.check.number
     check_is = ap (λ (t : Trees). t.check.number) begun_is
@@ -255,14 +249,14 @@ module _ (w : World) (f : Trees) (file : ℕ) (old new : HostState) (holds : Hol
         → Saves r h.meta file h.check.number old new → OnOk r (Holds (switch w) g new)
     switch_holds r g same number least saves =
         let next : ℕ = file_of (switched w.ordinals) (newest (switched w.ordinals)) in
-        four_ok r same number least (saves w.last (kept_now w) (bases_of w) f.levels next stored_begun number_is) (λ is behind small stored.
-        holds_switch w f g new holds.keeps world_below world_free (omega (arith, number_is, small))
+        four_ok r same number least (saves w.last (kept_now (with_ordinal w)) (bases_of w) f.levels next stored_begun number_is) (λ is behind small stored.
+        holds_switch w f g new holds.keeps world_below (omega (arith, number_is, small))
         (is ∙ ap (λ (t : Trees). record t { check = g.check; since = 0 }) begun_is) (omega (arith, behind, check_is))
-        (subst (λ (c : Content). IsStored (view_behind w.last c (kept_now w)) c (kept_now w) (bases_of w) f.levels next new) meta_is stored))
+        (subst (λ (c : Content). IsStored (view_behind w.last c (kept_now (with_ordinal w))) c (kept_now (with_ordinal w)) (bases_of w) f.levels next new) meta_is stored))
 
     pub switch_leaves : h.check.number < 2 ^ 64 - 1 → SavingPasses h.meta file h.check.number old new → DiskPasses (LeavesView w (switch w)) old new
     switch_leaves least run =
-        switch_passes w h.meta old new world_below world_free (omega (arith, number_is, least)) (meta_is ∙ ap content_switched holds.keeps.content_is) (run w.last (kept_now w) (bases_of w) f.levels stored_begun number_is)
+        switch_passes w h.meta old new world_below (omega (arith, number_is, least)) (meta_is ∙ ap content_switched holds.keeps.content_is) (run w.last (kept_now (with_ordinal w)) (bases_of w) f.levels stored_begun number_is)
 
 -- the forest stays one where an ordinal begins
 pub trees_switched : (c : Content) (o : Ordinals) (pool : Frames) (frames : List (Option Frame)) (levels : List Lists) (check : Saving) (since : ℕ) → AreTrees (trees c pool frames levels check since) → newest c.ordinals < 2 ^ 32 - 1 → o ≡ switched c.ordinals

@@ -1,5 +1,5 @@
 -- For which views the disks stand that a stop leaves of a stored view.
-use Rattle.std.proofs.Common.{◌≡◌, ◌⊎◌, inl, inr, ℕ, ◌+◌, ◌%◌, ◌<◌, ◌≤◌, false, List, [], length, get_or, Some, refl, sym, ◌∙◌, ap, subst, arith}
+use Rattle.std.proofs.Common.{◌≡◌, ◌⊎◌, inl, inr, ℕ, ◌+◌, ◌%◌, ◌<◌, ◌≤◌, List, [], length, get_or, Some, refl, sym, ◌∙◌, ap, subst, arith}
 use Rattle.std.proofs.lemmas.Bool.{cases_eq}
 use Rattle.std.proofs.lemmas.Nat.{mod_below}
 use Rattle.ak_base.specs.declared.limits.Limits.{Limits}
@@ -13,20 +13,19 @@ use Rattle.ak_image.specs.Laid.{IsLaid}
 use Rattle.ak_image.specs.Planted.{ArePlanted}
 use Rattle.ak_image.proofs.Agreeing.{laid_agree}
 use Rattle.ak_image.proofs.Standing.{laid_image, sound_laid}
-use Rattle.ak_image.proofs.StepLaid.{ordinal_laid}
+use Rattle.ak_image.proofs.Raising.{ordinal_laid, ordinal_planted}
 use Rattle.ak_levels.specs.Pending.{Lists}
 use Rattle.ak_meta.specs.Contents.{Content, IsMeta}
 use Rattle.ak_record.specs.Records.{frame_for, HasNewest, Rests}
 use Rattle.ak_volumes.specs.Ordinals.{ordinal_of, index_of, switched}
-use Rattle.ak_world.specs.Leaves.{Leaf}
-use Rattle.ak_world.specs.Steps.{is_full}
+use Rattle.ak_world.specs.Leaves.{Leaf, kept_from}
 use Rattle.ak_world.specs.Valid.{AreOpenable}
 use Rattle.ak_world.specs.Views.{View}
 use Rattle.ak_world.specs.Worlds.{world_of, content_now, kept_now}
 use Rattle.ak_world.proofs.Opened.{opened_content, opened_kept}
 use Rattle.ak_tree.specs.Standing.{bases_of}
 use Rattle.ak_tree.specs.Storing.{IsStored, IsLeftOf, LeavesSaved}
-use Rattle.ak_tree.proofs.Planted.{all_same, all_switched}
+use Rattle.ak_tree.proofs.Planted.{all_same}
 
 -- the view that follows
 abbrev pub view_behind : View → Content → List (List Leaf) → View
@@ -158,13 +157,13 @@ module _ (last : View) (c : Content) (kept : List (List Leaf)) (bases : List ℕ
           };
         }
 
-    -- an ordinal that begins in no other's place
-    pub stored_switched : is_full c.ordinals ≡ false → IsStored last (record c { ordinals = switched c.ordinals }) kept bases levels file host
-    stored_switched free = record {
+    -- an ordinal that begins, maybe in the place of the oldest
+    pub stored_switched : IsStored last (record c { ordinals = switched c.ordinals }) (kept_from (switched c.ordinals).lo kept) bases levels file host
+    stored_switched = record {
       rules_are = stored.rules_are;
       limits_are = stored.limits_are;
-      laid = ordinal_laid (seen_in c.limits.volumes host.files) c kept rules free stored.laid;
-      planted = all_switched c (seen_in c.limits.volumes host.files) 0 kept bases levels free stored.planted;
+      laid = ordinal_laid (seen_in c.limits.volumes host.files) c kept rules stored.laid;
+      planted = ordinal_planted (seen_in c.limits.volumes host.files) c kept rules stored.laid bases levels stored.planted;
       saved = stored.saved;
       left = stored.left;
     }

@@ -1,7 +1,7 @@
 -- What a forest keeps where a store is worn.
-use Rattle.std.proofs.Common.{◌≡◌, ◌≢◌, ℕ, ◌+◌, ◌-◌, ◌^◌, ◌<◌, ◌≤◌, ◌∙◌, [], ◌∷◌, ◌++◌, Bool, true, false, length, get_or, None, Some, refl, sym, ap, subst, arith}
-use Rattle.std.proofs.lemmas.Bool.{eq-eqb, le-ltb, lt-ltb, or_left, or_right}
-use Rattle.std.specs.Prelude.{◌==◌, if◌then◌else◌}
+use Rattle.std.proofs.Common.{◌≡◌, ◌≢◌, ℕ, ◌+◌, ◌-◌, ◌^◌, ◌<◌, ◌≤◌, ◌∙◌, [], ◌∷◌, ◌++◌, Bool, true, length, get_or, None, Some, refl, sym, ap, subst}
+use Rattle.std.proofs.lemmas.Bool.{eq-eqb}
+use Rattle.std.specs.Prelude.{if◌then◌else◌}
 use Rattle.ak_base.specs.declared.point.Point.{Point}
 use Rattle.ak_host.specs.Moments.{HostState}
 use Rattle.ak_leaf.specs.Spelling.{leaf_size}
@@ -11,9 +11,9 @@ use Rattle.ak_pool.specs.declared.pool.Frame.{Frame}
 use Rattle.ak_tree.specs.Standing.{Trees, AreTrees, Keeps, KeepsWorn}
 use Rattle.ak_tree.proofs.Appended.{begun, begun_full, full_rest}
 use Rattle.ak_tree.proofs.Joining.{IsOnWay, closed_rest, from_stays, room_switch, unless_stays}
-use Rattle.ak_tree.proofs.Saved.{content_switched, after_last, switch_free, with_ordinal}
+use Rattle.ak_tree.proofs.Saved.{content_switched, after_last, switch_begins, with_ordinal}
 use Rattle.ak_volumes.specs.Ordinals.{Ordinals, newest, newest_fill}
-use Rattle.ak_world.specs.Steps.{written_in, is_full, switch, with_room, group_of, closed, unless_worn, oldest, made_room, added, in_time, accepted, closed_from}
+use Rattle.ak_world.specs.Steps.{written_in, switch, with_room, group_of, closed, unless_worn, oldest, made_room, added, in_time, accepted, closed_from}
 use Rattle.ak_world.specs.Worlds.{World, worn_world, after_view}
 use Rattle.ak_world.proofs.ContentsOfLeaves.{after}
 
@@ -55,22 +55,13 @@ view_left w f new keeps last same =
     subst (KeepsWorn (after_view w)) (sym same) (subst (λ (u : World). KeepsWorn u f) (sym (after_last w (sym keeps.number_is ∙ last))) (kept_worn w f keeps))
 
 -- none can be where an ordinal has begun
-pub switch_left : (w : World) (f h new : Trees) → Keeps w f → IsMeta f.meta → newest f.meta.ordinals < 2 ^ 32 - 1 → (length f.meta.ordinals.fills ≡ f.meta.limits.volumes → ⊥) → h ≡ record f { meta = content_switched f.meta }
+pub switch_left : (w : World) (f h new : Trees) → Keeps w f → IsMeta f.meta → newest f.meta.ordinals < 2 ^ 32 - 1 → h ≡ record f { meta = content_switched f.meta }
     → h.check.number ≡ 2 ^ 64 - 1 → new ≡ h → KeepsWorn (switch w) new
-switch_left w f h new keeps rules below free begun_is last same =
+switch_left w f h new keeps rules below begun_is last same =
     let ordinals : f.meta.ordinals ≡ w.ordinals = ap (λ (c : Content). c.ordinals) keeps.content_is in
     let least : newest w.ordinals < 2 ^ 32 - 1 = subst (λ (o : Ordinals). newest o < 2 ^ 32 - 1) ordinals below in
-    let some : is_full w.ordinals ≡ false = ap is_full (sym ordinals) ∙ le-ltb f.meta.ordinals.volumes (length f.meta.ordinals.fills + 1) (omega (arith, rules.ordinals_are.most, rules.volumes, free)) in
     let number : (with_ordinal w).last.number ≡ 2 ^ 64 - 1 = sym keeps.number_is ∙ sym (ap (λ (t : Trees). t.check.number) begun_is) ∙ last in
-    subst (KeepsWorn (switch w)) (sym (same ∙ begun_is)) (subst (λ (u : World). KeepsWorn u (record f { meta = content_switched f.meta })) (sym (switch_free w least some ∙ after_last (with_ordinal w) number)) (begun_worn w f keeps))
-
--- each volume holds a live ordinal
-pub full_left : (w : World) (f : Trees) → Keeps w f → f.meta.ordinals.volumes ≤ length f.meta.ordinals.fills → KeepsWorn (switch w) f
-full_left w f keeps full =
-    let ordinals = ap (λ (c : Content). c.ordinals) keeps.content_is in
-    let is : is_full w.ordinals ≡ true = ap is_full (sym ordinals) ∙ lt-ltb f.meta.ordinals.volumes (length f.meta.ordinals.fills + 1) (omega (arith, full)) in
-    let worn : switch w ≡ worn_world w = ap (λ (b : Bool). if b then worn_world w else after_view (with_ordinal w)) (or_right (newest w.ordinals == 2 ^ 32 - 1) (is_full w.ordinals) is) in
-    subst (λ (u : World). KeepsWorn u f) (sym worn) (kept_worn w f keeps)
+    subst (KeepsWorn (switch w)) (sym (same ∙ begun_is)) (subst (λ (u : World). KeepsWorn u (record f { meta = content_switched f.meta })) (sym (switch_begins w least ∙ after_last (with_ordinal w) number)) (begun_worn w f keeps))
 
 -- no ordinal follows the newest
 pub room_left : (w : World) (f : Trees) (blocks : ℕ) → Keeps w f → f.meta.ordinals.blocks < newest_fill f.meta.ordinals + blocks → newest f.meta.ordinals ≡ 2 ^ 32 - 1 → KeepsWorn (with_room w blocks) f
@@ -79,7 +70,7 @@ room_left w f blocks keeps over last =
     let least : newest w.ordinals ≡ 2 ^ 32 - 1 = ap newest (sym ordinals) ∙ last in
     let none : w.ordinals.blocks < newest_fill w.ordinals + blocks = subst (λ (o : Ordinals). o.blocks < newest_fill o + blocks) ordinals over in
     let worn : switch w ≡ worn_world w =
-    ap (λ (b : Bool). if b then worn_world w else after_view (with_ordinal w)) (or_left (newest w.ordinals == 2 ^ 32 - 1) (is_full w.ordinals) (eq-eqb (newest w.ordinals) (2 ^ 32 - 1) least)) in
+    ap (λ (b : Bool). if b then worn_world w else after_view (with_ordinal w)) (eq-eqb (newest w.ordinals) (2 ^ 32 - 1) least) in
     subst (λ (u : World). KeepsWorn u f) (sym (room_switch w blocks none ∙ worn)) (kept_worn w f keeps)
 
 -- ---- Closed leaves

@@ -9,7 +9,7 @@ ghost use Rattle.ak_tree.specs.Stops.{HasTreeStops, OnMemory, OnWorn, IsWornBy};
 ghost use Rattle.ak_tree.specs.Storing.{IsStored, LeavesView, LeavesSaved};
 ghost use Rattle.ak_volumes.specs.Ordinals.{newest, newest_fill, file_of, switched};
 ghost use Rattle.ak_world.specs.Leaves.{Leaf};
-ghost use Rattle.ak_world.specs.Steps.{is_full, switch};
+ghost use Rattle.ak_world.specs.Steps.{switch};
 ghost use Rattle.ak_world.specs.Views.{View};
 ghost use Rattle.ak_world.specs.Worlds.{World, after_view};
 
@@ -100,7 +100,8 @@ impl Forest {
         self.save(disk, file)
     }
 
-    /// Begins an ordinal, and takes a view before anything stands in it. None begins at this stage in the place of another.
+    /// Begins an ordinal, in the place of the oldest where each volume holds a live one, and takes a view before anything stands
+    /// in it.
     pub(crate) fn switch<D: Disk>(&mut self, disk: &mut D) -> Result<(), Stop>
         requires ready { IsReady D.tells self.old (D.state disk.old) }
         requires below { newest self.old.meta.ordinals < 2 ^ 32 - 1 }
@@ -119,9 +120,6 @@ impl Forest {
         ensures moments { D.tells → (w : World) → Holds w self.old (D.state disk.old)
             → DiskPasses (LeavesView w (switch w)) (D.state disk.old) (D.state disk.new) }
     {
-        if self.meta.volumes().fills().len() == self.meta.limits().volumes as usize {
-            return Err(self.worn());
-        }
         let before = self.newest_file();
         self.meta.volumes_mut().switch();
         self.save(disk, before)

@@ -1,5 +1,7 @@
 -- What a record says of a world, where a point or a name is added.
-use Rattle.std.proofs.Common.{◌≡◌, ◌+◌, ◌∙◌, ℕ, zero, suc, Bool, true, false, ◌||◌, if◌then◌else◌, List, [], ◌∷◌, ◌++◌, drop, map, bytes_eq, refl, sym, ap}
+use Rattle.std.proofs.Common.{◌≡◌, ◌+◌, ◌≤◌, ◌∙◌, inl, inr, ℕ, zero, suc, Bool, true, false, ◌||◌, if◌then◌else◌, nat_le, nat_lt, List, [], ◌∷◌, ◌++◌, length, drop, map, bytes_eq, refl, sym, ap, ap₂, arith}
+use Rattle.std.proofs.lemmas.Bool.{cases_lt}
+use Rattle.std.proofs.lemmas.Bool.Decides.{nat_tests}
 use Rattle.std.proofs.lemmas.Cmp.{nat_list_eq_equiv}
 use Rattle.std.specs.List.{list_any}
 use Rattle.ak_base.specs.declared.point.Point.{Point}
@@ -7,10 +9,10 @@ use Rattle.ak_meta.specs.Contents.{content, names_of}
 use Rattle.ak_meta.specs.Leaves.{with_series}
 use Rattle.ak_meta.specs.Leaves.{new_series as series_without}
 use Rattle.ak_meta.specs.declared.meta.SeriesMeta.{SeriesMeta}
-use Rattle.ak_volumes.specs.Ordinals.{Ordinals, switched}
-use Rattle.ak_world.specs.Leaves.{Leaf, Series, leaves_from, new_series, with_point}
+use Rattle.ak_volumes.specs.Ordinals.{Ordinals, switched, ordinal_of}
+use Rattle.ak_world.specs.Leaves.{Leaf, Series, leaves_from, kept_from, new_series, with_point}
 use Rattle.ak_world.specs.Puts.{with_name}
-use Rattle.ak_world.specs.Steps.{added, changed, is_full}
+use Rattle.ak_world.specs.Steps.{added, changed}
 use Rattle.ak_world.specs.Valid.{IsWorld, AreSeriesOf, unknown}
 use Rattle.ak_world.specs.Views.{known_of, all_known}
 use Rattle.ak_world.specs.Worlds.{World, limits_of, content_now, kept_now}
@@ -96,9 +98,32 @@ known_stays w name some = stays w.series name (told w name true some)
 
 -- ---- Ordinals
 
-lo_stays : (o : Ordinals) → is_full o ≡ false → (switched o).lo ≡ o.lo
-lo_stays o free =
-    ap (λ (b : Bool). (if b then record o { lo = o.lo + 1; fills = drop 1 o.fills ++ 0 ∷ [] } else record o { fills = o.fills ++ 0 ∷ [] }).lo) free
+-- the oldest live one is never replaced by one before it
+pub lo_rises : (o : Ordinals) → o.lo ≤ (switched o).lo
+lo_rises o = of (nat_lt o.volumes (length o.fills + 1)) where
+  of : (b : Bool) → o.lo ≤ (if b then record o { lo = o.lo + 1; fills = drop 1 o.fills ++ 0 ∷ [] } else record o { fills = o.fills ++ 0 ∷ [] }).lo
+  of true = omega arith
+  of false = omega arith
 
-pub kept_switched : (w : World) → is_full w.ordinals ≡ false → kept_now (record w { ordinals = switched w.ordinals }) ≡ kept_now w
-kept_switched w free = ap (λ (lo : ℕ). live_in lo w.series) (lo_stays w.ordinals free)
+pub leaves_twice : (lo next : ℕ) (leaves : List Leaf) → lo ≤ next → leaves_from next (leaves_from lo leaves) ≡ leaves_from next leaves
+leaves_twice lo next [] rises = refl
+leaves_twice lo next (leaf ∷ leaves) rises =
+    let rest = leaves_twice lo next leaves rises in
+    elim (cases_lt (ordinal_of leaf.address) lo) [
+      | inl dead ↦
+          let one : nat_le lo (ordinal_of leaf.address) ≡ false = grind (arith, nat_tests, dead) in
+          let two : nat_le next (ordinal_of leaf.address) ≡ false = grind (arith, nat_tests, dead, rises) in
+          ap (leaves_from next) (ap (λ (b : Bool). if b then leaf ∷ leaves_from lo leaves else leaves_from lo leaves) one) ∙ rest
+          ∙ sym (ap (λ (b : Bool). if b then leaf ∷ leaves_from next leaves else leaves_from next leaves) two)
+      | inr live ↦
+          let one : nat_le lo (ordinal_of leaf.address) ≡ true = grind (arith, nat_tests, live) in
+          ap (leaves_from next) (ap (λ (b : Bool). if b then leaf ∷ leaves_from lo leaves else leaves_from lo leaves) one)
+          ∙ ap (λ (ls : List Leaf). if nat_le next (ordinal_of leaf.address) then leaf ∷ ls else ls) rest
+    ]
+
+kept_twice : (lo next : ℕ) (ss : List Series) → lo ≤ next → live_in next ss ≡ kept_from next (live_in lo ss)
+kept_twice lo next [] rises = refl
+kept_twice lo next (s ∷ ss) rises = ap₂ (λ (l : List Leaf) (ls : List (List Leaf)). l ∷ ls) (sym (leaves_twice lo next s.closed rises)) (kept_twice lo next ss rises)
+
+pub kept_switched : (w : World) → kept_now (record w { ordinals = switched w.ordinals }) ≡ kept_from (switched w.ordinals).lo (kept_now w)
+kept_switched w = kept_twice w.ordinals.lo (switched w.ordinals).lo w.series (lo_rises w.ordinals)

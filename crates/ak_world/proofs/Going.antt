@@ -1,14 +1,14 @@
 -- Steps keep the views that were taken.
 use Rattle.std.proofs.Common.{◌≡◌, ℕ, zero, suc, ◌+◌, ◌-◌, ◌^◌, ◌∙◌, List, [], ◌∷◌, ◌++◌, length, Bool, true, false, refl, sym, ap, subst, arith, append_assoc}
 use Rattle.std.proofs.lemmas.List.{append-nil}
-use Rattle.std.specs.Prelude.{ℤ, ◌==◌, ◌&&◌, ◌||◌, nat_le, if◌then◌else◌, is_some}
+use Rattle.std.specs.Prelude.{ℤ, ◌==◌, ◌&&◌, nat_le, if◌then◌else◌, is_some}
 use Rattle.ak_base.specs.declared.point.Point.{Point}
 use Rattle.ak_volumes.specs.Ordinals.{newest, newest_fill, switched}
 use Rattle.ak_world.specs.Views.{View}
 use Rattle.ak_world.specs.Worlds.{World, views_of, limits_of, worn_world, next_view, after_view}
 use Rattle.ak_world.specs.Leaves.{is_fit}
 use Rattle.ak_world.specs.Puts.{number_in, named, refusal_of, all_accepted, after_points}
-use Rattle.ak_world.specs.Steps.{written_in, is_empty, is_full, switch, with_room, entered, group_of, closed, unless_worn, made_fit, oldest, made_room, added, in_time, accepted, closed_from, flushed}
+use Rattle.ak_world.specs.Steps.{written_in, is_empty, switch, with_room, entered, group_of, closed, unless_worn, made_fit, oldest, made_room, added, in_time, accepted, closed_from, flushed}
 use Rattle.ak_world.specs.Valid.{Rise, Goes}
 use Rattle.ak_world.proofs.ContentsOfLeaves.{after}
 
@@ -68,7 +68,7 @@ view_goes w = either w (worn_world w) (record w { earlier = views_of w; last = n
 pub switch_goes : (w : World) → Goes w (switch w)
 switch_goes w =
     let new : World = record w { ordinals = switched w.ordinals } in
-    either w (worn_world w) (after_view new) ((newest w.ordinals == 2 ^ 32 - 1) || is_full w.ordinals) (same w (worn_world w) refl refl) (joined w new (after_view new) (same w new refl refl) (view_goes new))
+    either w (worn_world w) (after_view new) (newest w.ordinals == 2 ^ 32 - 1) (same w (worn_world w) refl refl) (joined w new (after_view new) (same w new refl refl) (view_goes new))
 
 -- ---- Closing
 

@@ -1,11 +1,12 @@
 -- Worlds computed: two volumes of 16 blocks, slots of one block and a pool of 4.
-use Rattle.std.specs.Prelude.{◌≡◌, ◌^◌, ℕ, zero, suc, pos, List, [], ◌∷◌, map, replicate, Some, None, true, refl}
+use Rattle.std.specs.Prelude.{◌≡◌, ◌+◌, ◌-◌, ◌*◌, ◌^◌, ℕ, zero, suc, pos, List, [], ◌∷◌, map, replicate, Some, None, true, refl}
 use Rattle.ak_base.specs.declared.limits.Limits.{Limits}
 use Rattle.ak_base.specs.declared.point.Point.{Point}
 use Rattle.ak_base.specs.declared.refusal.Refusal.TheVariants.{Late, MetaFull}
 use Rattle.ak_bytes.specs.Uvar.{uvar, groups}
 use Rattle.ak_levels.specs.Carries.{carry_of}
 use Rattle.ak_meta.specs.Leaves.{address_at}
+use Rattle.ak_meta.specs.declared.meta.SeriesMeta.{SeriesMeta}
 use Rattle.ak_world.specs.Leaves.{Leaf, Series}
 use Rattle.ak_world.specs.Views.{first_view, none, address_of}
 use Rattle.ak_world.specs.Worlds.{World, world_of}
@@ -91,19 +92,30 @@ next_address : map (λ (s : Series). address_of s.closed 16) (puts 17).series �
 unfolding carry_of uvar groups puts
 next_address = refl
 
--- Leaf 31 is in one group with its inner node. They don't fit behind 15 leaves, and both volumes are in use: the store is worn.
-worn_last : (puts 32).worn ≡ true
+-- Leaf 31 is in one group with its inner node. They don't fit behind 15 leaves, and both volumes are in use: the ordinal 2 takes
+-- the place of the ordinal 0, whose leaves are live no more.
+third_ordinals : (puts 32).ordinals ≡ record { volumes = 2; blocks = 16; lo = 1; fills = 15 ∷ 2 ∷ [] }
 unfolding carry_of uvar groups puts
-worn_last = refl
+third_ordinals = refl
 
--- its point was accepted, and no view tells of it
-worn_written : map (λ (s : Series). s.written) (puts 32).series ≡ (at 32 32 ∷ []) ∷ []
+-- a view is taken before the group and one behind it
+third_number : (puts 32).last.number ≡ 35
 unfolding carry_of uvar groups puts
-worn_written = refl
+third_number = refl
 
-worn_number : (puts 32).last.number ≡ 33
+third_kept : map (λ (leaves : List Leaf). map (λ (l : Leaf). l.number) leaves) (puts 32).last.kept ≡ (16 ∷ 17 ∷ 18 ∷ 19 ∷ 20 ∷ 21 ∷ 22 ∷ 23 ∷ 24 ∷ 25 ∷ 26 ∷ 27 ∷ 28 ∷ 29 ∷ 30 ∷ 31 ∷ []) ∷ []
 unfolding carry_of uvar groups puts
-worn_number = refl
+third_kept = refl
+
+-- the rescue addresses of the first two levels are those of the group
+third_told : map (λ (s : SeriesMeta). s.rescue) (puts 32).last.content.series ≡ (address_at (2 * 2 ^ 32) ∷ address_at (2 * 2 ^ 32 + 1) ∷ replicate 9 (address_at none)) ∷ []
+unfolding carry_of uvar groups puts
+third_told = refl
+
+-- no ordinal follows the greatest one
+last_worn : (flushed (after_points (record start { ordinals = record { volumes = 2; blocks = 16; lo = 2 ^ 32 - 2; fills = 16 ∷ 16 ∷ [] } }) (cpu ∷ []) 1 (pos 1 ∷ []))).worn ≡ true
+unfolding carry_of uvar groups
+last_worn = refl
 
 -- ---- Pools
 

@@ -1,9 +1,9 @@
 -- Steps keep a world valid.
 use Rattle.std.proofs.Common.{◌≡◌, ◌≢◌, inl, inr, ℕ, zero, suc, ◌+◌, ◌-◌, ◌^◌, ◌<◌, ◌≤◌, ◌∙◌, List, [], ◌∷◌, ◌++◌, length, drop, map, slice_set, Option, Some, None, Bool, true, false, bytes_eq, refl, sym, ap, subst, arith, length-append, append_assoc}
 use Rattle.std.proofs.lemmas.List.{append-nil, length-set, nil_from_length}
-use Rattle.std.proofs.lemmas.Bool.{cases_eq, eqb-false, ne_eqb, or_parts, cond-false, true≢false}
+use Rattle.std.proofs.lemmas.Bool.{cases_eq, eqb-false, ne_eqb, cond-false, true≢false}
 use Rattle.std.specs.List.{AllByRecursion}
-use Rattle.std.specs.Prelude.{◌==◌, ◌||◌, nat_le, nat_lt, if◌then◌else◌, slice_index, IfSome}
+use Rattle.std.specs.Prelude.{◌==◌, nat_le, nat_lt, if◌then◌else◌, slice_index, IfSome}
 use Rattle.ak_base.specs.Points.{IsPoint, IsHistoryFrom, last_ts_from}
 use Rattle.ak_base.specs.declared.point.Point.{Point}
 use Rattle.ak_meta.proofs.Fronts.{each_push, each_taken}
@@ -14,7 +14,7 @@ use Rattle.ak_volumes.specs.Ordinals.{Ordinals, AreOrdinals, IsLive, newest, new
 use Rattle.ak_world.specs.Leaves.{Leaf, Series, new_series, with_point, closed_at, leaf_at, leaves_from}
 use Rattle.ak_world.specs.Views.{View, last_time, known_of, all_known}
 use Rattle.ak_world.specs.Worlds.{World, views_of, limits_of, worn_world, next_view, after_view, time_of}
-use Rattle.ak_world.specs.Steps.{changed, written_in, last_at, is_full, switch, entered, added, but}
+use Rattle.ak_world.specs.Steps.{changed, written_in, last_at, switch, entered, added, but}
 use Rattle.ak_world.specs.Puts.{with_name}
 use Rattle.ak_world.specs.Valid.{AreNumbered, last_now, IsSeriesOf, unknown, AreSeriesOf, IsHeld, AreHeld, IsPrefix, IsWorld}
 use Rattle.ak_world.proofs.ContentsOfLeaves.{after, time_more}
@@ -117,10 +117,10 @@ pub switch_room : (w : World) (blocks : ℕ) → IsWorld w → blocks ≤ w.ordi
 switch_room w blocks is few whole =
     let o = w.ordinals in
     let new : World = record w { ordinals = switched o } in
-    one_world (λ (v : World). HasRoom w v blocks) ((newest o == 2 ^ 32 - 1) || is_full o) (worn_world w) (after_view new)
+    one_world (λ (v : World). HasRoom w v blocks) (newest o == 2 ^ 32 - 1) (worn_world w) (after_view new)
     (λ _ other. absurd (true≢false other))
     (λ room whole.
-    let below : newest o ≢ 2 ^ 32 - 1 = eqb-false (newest o) (2 ^ 32 - 1) (or_parts (newest o == 2 ^ 32 - 1) (is_full o) room).0 in
+    let below : newest o ≢ 2 ^ 32 - 1 = eqb-false (newest o) (2 ^ 32 - 1) room in
     one_world (λ (v : World). HasRoom w v blocks) (nat_le (2 ^ 64 - 1) w.last.number) (worn_world new) (record new { earlier = views_of new; last = next_view new; since = 0 })
     (λ _ other. absurd (true≢false other))
     (λ _ _. record {

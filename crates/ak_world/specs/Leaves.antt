@@ -1,5 +1,5 @@
 -- One series: its closed leaves, and the points of its open leaf.
-use Rattle.std.specs.Prelude.{ℕ, ◌+◌, nat_le, if◌then◌else◌, Bool, List, [], ◌∷◌, ◌++◌, Option, Some, None}
+use Rattle.std.specs.Prelude.{ℕ, ◌+◌, nat_le, if◌then◌else◌, Bool, List, [], ◌∷◌, ◌++◌, map, Option, Some, None}
 use Rattle.std.specs.List.{flat_map}
 use Rattle.ak_base.specs.declared.point.Point.{Point}
 use Rattle.ak_leaf.specs.Spelling.{leaf_size}
@@ -44,6 +44,10 @@ closed_at s a = record s { closed = s.closed ++ leaf_at s a ∷ []; written = []
 abbrev pub leaves_from : ℕ → List Leaf → List Leaf
 leaves_from lo [] = []
 leaves_from lo (leaf ∷ leaves) = if nat_le lo (ordinal_of leaf.address) then leaf ∷ leaves_from lo leaves else leaves_from lo leaves
+
+-- the same of each series
+abbrev pub kept_from : ℕ → List (List Leaf) → List (List Leaf)
+kept_from lo kept = map (leaves_from lo) kept
 
 abbrev pub points_of : List Leaf → List Point
 points_of leaves = flat_map (λ (leaf : Leaf). leaf.points) leaves

@@ -1,8 +1,8 @@
 -- What closed leaves, points and flushes make of a store.
-use Rattle.std.specs.Prelude.{ℕ, zero, suc, ◌+◌, ◌-◌, ◌^◌, ◌==◌, nat_le, nat_lt, if◌then◌else◌, Bool, ◌&&◌, ◌||◌, List, [], ◌∷◌, length, Option, None}
+use Rattle.std.specs.Prelude.{ℕ, zero, suc, ◌+◌, ◌-◌, ◌^◌, ◌==◌, nat_le, if◌then◌else◌, Bool, ◌&&◌, List, [], ◌∷◌, length, Option, None}
 use Rattle.ak_base.specs.declared.point.Point.{Point}
 use Rattle.ak_levels.specs.Carries.{carry_of}
-use Rattle.ak_volumes.specs.Ordinals.{Ordinals, newest, newest_fill, address, filled, switched}
+use Rattle.ak_volumes.specs.Ordinals.{newest, newest_fill, address, filled, switched}
 use Rattle.ak_world.specs.Leaves.{Series, is_fit, with_point, closed_at}
 use Rattle.ak_world.specs.Worlds.{World, limits_of, worn_world, after_view}
 
@@ -38,14 +38,10 @@ but n (x ∷ xs) = if x == n then but n xs else x ∷ but n xs
 
 -- ---- Placing
 
--- each volume holds a live ordinal, so that a new one takes the place of the oldest
-abbrev pub is_full : Ordinals → Bool
-is_full o = nat_lt o.volumes (length o.fills + 1)
-
--- A new ordinal begins, and a view is taken before anything stands in it. No ordinal follows the greatest one, and at this
--- stage none takes the place of another: the store is worn.
+-- A new ordinal begins, in the place of the oldest where each volume holds a live one, and a view is taken before anything
+-- stands in it. No ordinal follows the greatest one: the store is worn.
 abbrev pub switch : World → World
-switch w = if (newest w.ordinals == 2 ^ 32 - 1) || is_full w.ordinals then worn_world w else after_view (record w { ordinals = switched w.ordinals })
+switch w = if newest w.ordinals == 2 ^ 32 - 1 then worn_world w else after_view (record w { ordinals = switched w.ordinals })
 
 -- there is room for so many blocks
 abbrev pub with_room : World → ℕ → World

@@ -6,9 +6,9 @@ ghost use Rattle.ak_base.specs.declared.point.Point.{Point};
 ghost use Rattle.ak_meta.specs.Contents.{Content, IsMeta, names_of};
 ghost use Rattle.ak_meta.specs.Leaves.{with_series, closed_in, leaves_at};
 ghost use Rattle.ak_volumes.specs.Ordinals.{newest, newest_fill, address, filled, switched};
-ghost use Rattle.ak_world.specs.Leaves.{Leaf, Series};
+ghost use Rattle.ak_world.specs.Leaves.{Leaf, Series, kept_from};
 ghost use Rattle.ak_world.specs.Puts.{with_name};
-ghost use Rattle.ak_world.specs.Steps.{is_full, added, entered, group_of, leaves_in, written_in};
+ghost use Rattle.ak_world.specs.Steps.{added, entered, group_of, leaves_in, written_in};
 ghost use Rattle.ak_world.specs.Valid.{IsWorld, AreOpenable, kept_with};
 ghost use Rattle.ak_world.specs.Views.{View};
 ghost use Rattle.ak_world.specs.Worlds.{World, world_of, content_now, kept_now};
@@ -36,10 +36,10 @@ pub fn content_with_name()
         → with_name w.series name ≡ w.series }
 {}
 
-/// An ordinal that begins in no other's place changes the ordinals alone.
+/// An ordinal that begins changes the ordinals alone, and the leaves of an oldest one whose place it takes are live no more.
 pub fn content_with_ordinal()
     ensures content { (w : World) → content_now (record w { ordinals = switched w.ordinals }) ≡ record (content_now w) { ordinals = switched w.ordinals } }
-    ensures kept { (w : World) → is_full w.ordinals ≡ false → kept_now (record w { ordinals = switched w.ordinals }) ≡ kept_now w }
+    ensures kept { (w : World) → kept_now (record w { ordinals = switched w.ordinals }) ≡ kept_from (switched w.ordinals).lo (kept_now w) }
 {}
 
 /// A leaf that is closed is one leaf more of its series, whose group stands at the fill of the newest ordinal.

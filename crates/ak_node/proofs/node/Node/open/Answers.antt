@@ -105,3 +105,10 @@ returns-in-Ok-clause-found g c told =
     let blocks = file_long mid (g.met.D.Disk.sized told c.open_newest.new.disk) ∙ e.gate.0.sized.blocks in
     node_found o.gate.number o.meta c.in_ok-waiting.waiting.levels (record { gate = o.gate; pending = false; number = o.gate.number; bytes = []; file = 0 }) c.in-Ok.keeper c.over.result _ c.over.ensures.keeper c.in-Ok.ensures.opened refl
     (found_is o.gate.slot o.gate.number o.meta (g.D.Outside.state c.args.disk.now).files e.rules e.gate.1 (ap (λ (f : Files). length (file_at f 0)) (sym same) ∙ blocks) (ap (λ (f : Files). newest o.gate.slot f) (sym first) ∙ e.newest told))
+
+pub returns-in_err-waiting-clause-moments : goal.returns-in_err-waiting-clause-moments
+returns-in_err-waiting-clause-moments g c told =
+    let old = g.D.Outside.state c.args.disk.now in
+    let first = c.sync_all.ensures.moments told in
+    let second : DiskPasses (LeavesNow old) old (g.D.Outside.state c.open_newest.new.disk) = disk_goes_on first (c.open_newest.ensures.moments told) (disk_now first (λ disk left. left)) in
+    disk_goes_on second (c.repaired.ensures.reads.moments told) (disk_now second (λ disk left. left))

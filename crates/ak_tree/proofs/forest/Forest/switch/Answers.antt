@@ -1,6 +1,5 @@
-use Rattle.std.proofs.Common.{◌≡◌, inl, inr, ◌-◌, ◌^◌, ◌<◌, ◌≤◌, ◌∙◌, arith, ap, sym, subst, length}
+use Rattle.std.proofs.Common.{◌≡◌, inl, inr, ◌-◌, ◌^◌, ◌<◌, ◌∙◌, ap, sym, subst}
 use Rattle.std.proofs.lemmas.Bool.{cases_lt}
-use Rattle.ak_base.specs.declared.limits.Limits.{Limits}
 use Rattle.ak_host.specs.Moments.{DiskPasses}
 use Rattle.ak_host.proofs.Passing.{disk_starts}
 use Rattle.ak_tree.specs.Standing.{Trees, Holds, Keeps, trees}
@@ -8,8 +7,8 @@ use Rattle.ak_tree.specs.Storing.{LeavesView}
 use Rattle.ak_volumes.specs.Ordinals.{Ordinals, newest, file_of, switched}
 use Rattle.ak_world.specs.Steps.{switch}
 use Rattle.ak_tree.proofs.Saved.{trees_switched, switch_holds, switch_leaves}
-use Rattle.ak_tree.proofs.Telling.{worn_here, worn_both}
-use Rattle.ak_tree.proofs.Worn.{full_left, switch_left}
+use Rattle.ak_tree.proofs.Telling.{worn_both}
+use Rattle.ak_tree.proofs.Worn.{switch_left}
 use Rattle.ak_tree.proofs.forest.Forest.switch.Goals as goal
 
 pub invariant_of-self : goal.invariant_of-self
@@ -17,14 +16,6 @@ invariant_of-self g c =
     let m = c.self.inside in
     let below = subst (λ (f : Trees). newest f.meta.ordinals < 2 ^ 32 - 1) (sym c.self.view_is) c.requires.below in
     trees_switched m.meta c.switch.new.self m.pool m.frames.items m.levels m.check m.since c.self.invariant below (c.switch.ensures.switched ∙ ap switched c.volumes_mut.ensures.value)
-
-pub returns-then-fills-limits-clause-left : goal.returns-then-fills-limits-clause-left
-returns-then-fills-limits-clause-left g c told w holds =
-    let m = c.self.inside in
-    let fills = c.fills.ensures.fills ∙ ap (λ (o : Ordinals). o.fills) c.volumes.ensures in
-    let full : length m.meta.ordinals.fills ≡ m.meta.limits.volumes = ap length (sym fills) ∙ c.if-fills-limits.true ∙ ap (λ (l : Limits). l.volumes) c.limits.ensures in
-    let most = subst (λ (t : Trees). t.meta.ordinals.volumes ≤ length t.meta.ordinals.fills) c.self.view_is (omega (arith, full, c.self.invariant.rules_are.volumes)) in
-    worn_here c.worn.result (λ s. full_left w c.args.self.now holds.keeps most)
 
 pub returns-clause-left : goal.returns-clause-left
 returns-clause-left g c told w holds =
@@ -35,11 +26,8 @@ returns-clause-left g c told w holds =
     let below = subst (λ (f : Trees). newest f.meta.ordinals < 2 ^ 32 - 1) (sym c.self.view_is) c.requires.below in
     let begun : h ≡ record f { meta = record m.meta { ordinals = switched m.meta.ordinals } } =
     ap (λ (o : Ordinals). trees (record m.meta { ordinals = o }) m.pool m.frames.items m.levels m.check m.since) (c.switch.ensures.switched ∙ ap switched c.volumes_mut.ensures.value) in
-    let fills = c.fills.ensures.fills ∙ ap (λ (o : Ordinals). o.fills) c.volumes.ensures in
-    let free : length m.meta.ordinals.fills ≡ m.meta.limits.volumes → ⊥ =
-    λ e. c.if-fills-limits.false (ap length fills ∙ e ∙ sym (ap (λ (l : Limits). l.volumes) c.limits.ensures)) in
     let here = subst (λ (t : Trees). Keeps w t) (sym c.self.view_is) holds.keeps in
-    worn_both c.save.result (λ s last same. switch_left w f h c.save.new.self here c.self.invariant.rules_are below free begun last.0 same) c.save.ensures.worn c.save.ensures.still
+    worn_both c.save.result (λ s last same. switch_left w f h c.save.new.self here c.self.invariant.rules_are below begun last.0 same) c.save.ensures.worn c.save.ensures.still
 
 pub returns-clause-after : goal.returns-clause-after
 returns-clause-after g c told w holds =
@@ -51,11 +39,8 @@ returns-clause-after g c told w holds =
     let begun : h ≡ record f { meta = record m.meta { ordinals = switched m.meta.ordinals } } =
     ap (λ (o : Ordinals). trees (record m.meta { ordinals = o }) m.pool m.frames.items m.levels m.check m.since) (c.switch.ensures.switched ∙ ap switched c.volumes_mut.ensures.value) in
     let file_is = subst (λ (f : Trees). c.newest_file-before.result ≡ file_of f.meta.ordinals (newest f.meta.ordinals)) (sym c.self.view_is) c.newest_file-before.ensures in
-    let fills = c.fills.ensures.fills ∙ ap (λ (o : Ordinals). o.fills) c.volumes.ensures in
-    let free : length m.meta.ordinals.fills ≡ m.meta.limits.volumes → ⊥ =
-    λ e. c.if-fills-limits.false (ap length fills ∙ e ∙ sym (ap (λ (l : Limits). l.volumes) c.limits.ensures)) in
     switch_holds w f c.newest_file-before.result old (g.D.Outside.state c.save.new.disk) (subst (λ (f : Trees). Holds w f old) (sym c.self.view_is) holds) file_is
-    c.self.invariant.rules_are below free h begun c.save.result c.save.new.self c.save.ensures.same c.save.ensures.number c.save.ensures.below (c.save.ensures.stored told)
+    c.self.invariant.rules_are below h begun c.save.result c.save.new.self c.save.ensures.same c.save.ensures.number c.save.ensures.below (c.save.ensures.stored told)
 
 pub returns-clause-moments : goal.returns-clause-moments
 returns-clause-moments g c told w holds =
@@ -67,12 +52,9 @@ returns-clause-moments g c told w holds =
     let begun : h ≡ record f { meta = record m.meta { ordinals = switched m.meta.ordinals } } =
     ap (λ (o : Ordinals). trees (record m.meta { ordinals = o }) m.pool m.frames.items m.levels m.check m.since) (c.switch.ensures.switched ∙ ap switched c.volumes_mut.ensures.value) in
     let file_is = subst (λ (f : Trees). c.newest_file-before.result ≡ file_of f.meta.ordinals (newest f.meta.ordinals)) (sym c.self.view_is) c.newest_file-before.ensures in
-    let fills = c.fills.ensures.fills ∙ ap (λ (o : Ordinals). o.fills) c.volumes.ensures in
-    let free : length m.meta.ordinals.fills ≡ m.meta.limits.volumes → ⊥ =
-    λ e. c.if-fills-limits.false (ap length fills ∙ e ∙ sym (ap (λ (l : Limits). l.volumes) c.limits.ensures)) in
     elim (cases_lt m.check.number (2 ^ 64 - 1)) [
       | inl least ↦
           switch_leaves w f c.newest_file-before.result old (g.D.Outside.state c.save.new.disk) (subst (λ (f : Trees). Holds w f old) (sym c.self.view_is) holds) file_is
-          c.self.invariant.rules_are below free h begun least (c.save.ensures.moments told)
+          c.self.invariant.rules_are below h begun least (c.save.ensures.moments told)
       | inr last ↦ subst (λ d. DiskPasses (LeavesView w (switch w)) old (g.D.Outside.state d)) (sym (c.save.ensures.last last)) (disk_starts (LeavesView w (switch w)) old)
     ]
