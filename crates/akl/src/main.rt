@@ -1,11 +1,15 @@
 //! The program: its words, its files, standard input and standard output, and its status.
 #![tactic(auto)]
 
+mod help;
 mod real;
+mod standard;
 #[cfg(test)]
 mod tests;
 
+use crate::help::{tell_failure, tell_usage};
 use crate::real::RealHost;
+use crate::standard::Held;
 use ak_top::akl;
 use ak_words::{Command, WordsError, read_words};
 use std::alloc::{AllocError, Global};
@@ -48,13 +52,41 @@ fn host_of(rt: HostRuntime, words: &[String]) -> Result<RealHost<Stdin, Stdout>,
     }
 }
 
+// Tells on standard error what a status other than 0 has no room for. Where that fails nobody hears it.
+fn tell(
+    rt: &HostRuntime,
+    words: &[String],
+    held: &Held,
+    host: &RealHost<Stdin, Stdout>,
+    status: u8,
+) {
+    let failure = match status {
+        1 => {
+            let _ = tell_usage(rt, words);
+            return;
+        }
+        3 => host.disk_failure(),
+        4 => host.port_failure(),
+        _ => None,
+    };
+    if let Some(failure) = failure {
+        let _ = tell_failure(rt, held, host, failure);
+    }
+}
+
 fn main(rt: HostRuntime) -> ExitCode {
     let alloc = rt.alloc();
+    // Before any file is opened.
+    let Ok(held) = Held::take(&rt) else {
+        return ExitCode::from(4);
+    };
     let Ok(words) = words_of(&rt, alloc) else {
         return ExitCode::from(5);
     };
     let Ok(mut host) = host_of(rt, words.as_slice()) else {
         return ExitCode::from(5);
     };
-    ExitCode::from(akl(alloc, words.as_slice(), &mut host))
+    let status = akl(alloc, words.as_slice(), &mut host);
+    tell(&rt, words.as_slice(), &held, &host, status);
+    ExitCode::from(status)
 }

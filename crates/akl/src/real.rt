@@ -1,15 +1,17 @@
 //! A host over the real outside: files in a directory or in memory, and standard input and output.
-ghost use Rattle.std.specs.Prelude.{◌≡◌, ◌≤◌, ◌<◌, ◌^◌, [], length, Ok, IfOk, OnOk};
+ghost use Rattle.std.specs.Prelude.{◌≡◌, ◌≤◌, ◌<◌, ◌^◌, [], length, Ok, IfOk, OnOk, OnErr, IsSome};
 ghost use Rattle.ak_host.specs.Causes.{HasCause, Rose};
 
 mod console;
 mod directory;
+mod failure;
 mod items;
 mod memory;
 
 use ak_host::{Block, Disk, Failed, Host, Outside, Ports, Turn};
 use console::Console;
 use directory::Directory;
+pub use failure::{Call, Failure};
 use items::put_item;
 use memory::Memory;
 use std::alloc::{AllocError, Global};
@@ -31,7 +33,7 @@ impl Medium {
         }
     }
 
-    fn read(&self, file: u32, index: u32, into: &mut Block) -> io::Result<()> {
+    fn read(&mut self, file: u32, index: u32, into: &mut Block) -> io::Result<()> {
         match self {
             Medium::Directory(directory) => directory.read(file, index, into),
             Medium::Memory(memory) => memory.read(file, index, into),
@@ -52,6 +54,22 @@ impl Medium {
             Medium::Memory(_) => Ok(()),
         }
     }
+
+    // The directory in which nothing more can be made or synced, and why.
+    fn fault(&self) -> Option<(&str, io::Error)> {
+        match self {
+            Medium::Directory(directory) => directory.fault(),
+            Medium::Memory(_) => None,
+        }
+    }
+
+    // The path of a file, where it has one.
+    fn path_of(&self, file: u32) -> Result<Option<String>, AllocError> {
+        match self {
+            Medium::Directory(directory) => Ok(Some(directory.path_of(file)?)),
+            Medium::Memory(_) => Ok(None),
+        }
+    }
 }
 
 /// A host over files in a directory or in memory, and over one input, which is port 1, and one output, which is told what
@@ -66,6 +84,8 @@ pub struct RealHost<R: Read + Drop, W: Write + Drop> {
     console: Console<R, W>,
     disk_faults: u64,
     port_faults: u64,
+    disk_failure: Option<Failure>,
+    port_failure: Option<Failure>,
     ghost few: { length sizes.items < 2 ^ 32 },
 }
 
@@ -108,7 +128,29 @@ impl<R: Read + Drop, W: Write + Drop> RealHost<R, W> {
             console: Console::new(input, output),
             disk_faults: 0,
             port_faults: 0,
+            disk_failure: None,
+            port_failure: None,
         }
+    }
+
+    /// The first call of the disk that failed.
+    pub fn disk_failure(&self) -> Option<Failure> {
+        self.disk_failure
+    }
+
+    /// The first call of the ports that failed.
+    pub fn port_failure(&self) -> Option<Failure> {
+        self.port_failure
+    }
+
+    /// The directory in which nothing more can be made or synced, and why.
+    pub fn directory_fault(&self) -> Option<(&str, io::Error)> {
+        self.medium.fault()
+    }
+
+    /// The path of a file, where it has one.
+    pub fn path_of(&self, file: u32) -> Result<Option<String>, AllocError> {
+        self.medium.path_of(file)
     }
 }
 
@@ -137,15 +179,26 @@ fn fault(faults: &mut u64) -> Failed
     Failed
 }
 
-// What a call answers, where a failure is counted.
-fn counted<T, E: Drop>(outcome: Result<T, E>, faults: &mut u64) -> Result<T, Failed>
+// What a call answers, where a failure is counted, and the first is kept.
+fn counted<T>(
+    outcome: io::Result<T>,
+    call: Call,
+    faults: &mut u64,
+    first: &mut Option<Failure>,
+) -> Result<T, Failed>
     ensures cause { HasCause faults.old faults.new result }
     ensures same { OnOk result (faults.new ≡ faults.old) }
     ensures value { IfOk result (λ value. outcome ≡ Ok value) }
+    ensures kept { OnErr result (IsSome first.new) }
 {
     match outcome {
         Ok(value) => Ok(value),
-        Err(_) => Err(fault(faults)),
+        Err(error) => {
+            if first.is_none() {
+                *first = Some(Failure { call, error });
+            }
+            Err(fault(faults))
+        }
     }
 }
 
@@ -165,33 +218,66 @@ impl<R: Read + Drop, W: Write + Drop> Disk for RealHost<R, W> {
     }
 
     fn make(&mut self, file: u32, blocks: u32) -> Result<(), Failed> {
-        counted(self.medium.make(file, blocks), &mut self.disk_faults)?;
+        let made = self.medium.make(file, blocks);
         counted(
-            put_item(&mut self.sizes, file, blocks),
+            made,
+            Call::Make(file),
             &mut self.disk_faults,
+            &mut self.disk_failure,
+        )?;
+        counted(
+            put_item(&mut self.sizes, file, blocks).map_err(io::Error::from),
+            Call::Make(file),
+            &mut self.disk_faults,
+            &mut self.disk_failure,
         )
     }
 
     fn read(&mut self, file: u32, index: u32, into: &mut Block) -> Result<(), Failed> {
-        counted(self.medium.read(file, index, into), &mut self.disk_faults)
+        counted(
+            self.medium.read(file, index, into),
+            Call::Read(file, index),
+            &mut self.disk_faults,
+            &mut self.disk_failure,
+        )
     }
 
     fn write(&mut self, file: u32, index: u32, from: &Block) -> Result<(), Failed> {
-        counted(self.medium.write(file, index, from), &mut self.disk_faults)
+        counted(
+            self.medium.write(file, index, from),
+            Call::Write(file, index),
+            &mut self.disk_faults,
+            &mut self.disk_failure,
+        )
     }
 
     fn sync(&mut self, file: u32) -> Result<(), Failed> {
-        counted(self.medium.sync(file), &mut self.disk_faults)
+        counted(
+            self.medium.sync(file),
+            Call::Sync(file),
+            &mut self.disk_faults,
+            &mut self.disk_failure,
+        )
     }
 }
 
 impl<R: Read + Drop, W: Write + Drop> Ports for RealHost<R, W> {
     fn turn(&mut self, into: &mut Block) -> Result<Turn, Failed> {
-        counted(self.console.turn(into), &mut self.port_faults)
+        counted(
+            self.console.turn(into),
+            Call::Input,
+            &mut self.port_faults,
+            &mut self.port_failure,
+        )
     }
 
     fn reply(&mut self, port: u32, bytes: &[u8]) -> Result<(), Failed> {
-        counted(self.console.reply(port, bytes), &mut self.port_faults)
+        counted(
+            self.console.reply(port, bytes),
+            Call::Output,
+            &mut self.port_faults,
+            &mut self.port_failure,
+        )
     }
 }
 

@@ -162,17 +162,26 @@ fn files_in_memory(rt: HostRuntime) -> std::result::Result<(), Fail> {
     Ok(())
 }
 
-// A second host on the directory finds what the first made. The first `make` makes the directory.
+// A second host on the directory finds what the first made, once that is gone. The first `make` makes the directory.
 #[test]
 fn files_in_a_directory(rt: HostRuntime) -> std::result::Result<(), Fail> {
     let _ = fs::remove_dir_all(&rt, "akl_filled");
     let mut host = open(rt, "akl_filled")?;
     assert!(rt; !fs::exists(&rt, "akl_filled")?);
     fill(&rt, &mut host);
-    check_filled(&rt, &mut open(rt, "akl_filled")?);
+    let mut early = open(rt, "akl_filled")?;
+    assert_eq!(rt; (blocks(&early, 0), blocks(&early, 1)), (Some(4), None));
+    assert_eq!(rt; last_byte(&mut early, 0, 0), None);
+    assert!(rt; !make(&mut early, 1, 1));
+    drop(early);
+    check_filled(&rt, &mut host);
+    drop(host);
+    let mut host = open(rt, "akl_filled")?;
+    check_filled(&rt, &mut host);
     assert_eq!(rt; fs::metadata(&rt, "akl_filled/meta")?.len(), 4096);
     assert_eq!(rt; fs::metadata(&rt, "akl_filled/vol0001")?.len(), 12288);
     make_anew(&rt, &mut host);
+    drop(host);
     let mut second = open(rt, "akl_filled")?;
     assert_eq!(rt;
         (blocks(&second, 0), last_byte(&mut second, 0, 1)),
@@ -202,10 +211,34 @@ fn files_up_to_a_gap(rt: HostRuntime) -> std::result::Result<(), Fail> {
     assert_eq!(rt; last_byte(&mut host, 0, 0), Some(0));
     assert!(rt; !fs::exists(&rt, "akl_gap/meta.tmp")?);
     assert!(rt; make(&mut host, 2, 1));
-    assert_eq!(rt; open(rt, "akl_gap")?.files(), 4);
+    drop(host);
+    let mut host = open(rt, "akl_gap")?;
+    assert_eq!(rt; host.files(), 4);
     fs::write(&rt, "akl_gap/meta", [2; 4095].as_slice())?;
     assert_eq!(rt; last_byte(&mut host, 0, 0), None);
     fs::remove_dir_all(&rt, "akl_gap")?;
+    Ok(())
+}
+
+// Volumes without `meta` aren't written over, and a link in the place of a new file isn't followed.
+#[test]
+fn what_is_there_stays(rt: HostRuntime) -> std::result::Result<(), Fail> {
+    let _ = fs::remove_dir_all(&rt, "akl_stays");
+    fs::create_dir(&rt, "akl_stays")?;
+    fs::write(&rt, "akl_stays/vol0002", "kept")?;
+    let mut host = open(rt, "akl_stays")?;
+    assert_eq!(rt; host.files(), 0);
+    assert!(rt; !make(&mut host, 0, 1));
+    drop(host);
+    fs::remove_file(&rt, "akl_stays/vol0002")?;
+    fs::write(&rt, "akl_stays/other", "kept")?;
+    symlink(&rt, "other", "akl_stays/meta.tmp")?;
+    let mut host = open(rt, "akl_stays")?;
+    assert!(rt; make(&mut host, 0, 1));
+    assert_eq!(rt; fs::metadata(&rt, "akl_stays/other")?.len(), 4);
+    assert_eq!(rt; fs::metadata(&rt, "akl_stays/meta")?.len(), 4096);
+    drop(host);
+    fs::remove_dir_all(&rt, "akl_stays")?;
     Ok(())
 }
 
