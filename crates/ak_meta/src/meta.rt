@@ -40,10 +40,12 @@ pub struct Meta {
     limits: Limits,
     volumes: Volumes,
     series: Vec<SeriesMeta>,
+    /// How many bytes the spellings of the series have.
+    bytes: u64,
 }
 
 impl Model for Meta {
-    ghost use Rattle.std.specs.Prelude.{◌<◌, ◌^◌};
+    ghost use Rattle.std.specs.Prelude.{◌<◌, ◌^◌, ◌≡◌, ◌+◌, sum, map, length};
     ghost use Rattle.ak_base.specs.Ranges.{AreLimits};
     ghost use Rattle.ak_meta.specs.Contents.{Content, content, size_of};
 
@@ -51,7 +53,8 @@ impl Model for Meta {
 
     ghost view = { λ m. content m.limits m.volumes m.series.items };
 
-    ghost invariant = { λ m. AreLimits m.limits × (size_of (content m.limits m.volumes m.series.items) < 2 ^ 64) };
+    ghost invariant = { λ m. AreLimits m.limits × (size_of (content m.limits m.volumes m.series.items) < 2 ^ 64)
+        × (m.bytes ≡ sum (map (λ s. 106 + length s.name) m.series.items)) };
 }
 
 impl Meta {
@@ -64,6 +67,7 @@ impl Meta {
             limits,
             volumes: Volumes::new(alloc, limits.volumes, limits.blocks, 0, &[0])?,
             series: Vec::new(alloc),
+            bytes: 0,
         })
     }
 
@@ -73,10 +77,12 @@ impl Meta {
         requires size { size_of (content limits volumes series.items) < 2 ^ 64 }
         ensures { result ≡ content limits volumes series.items }
     {
+        let bytes = size_of_all(series.as_slice());
         Meta {
             limits,
             volumes,
             series,
+            bytes,
         }
     }
 
@@ -109,7 +115,7 @@ impl Meta {
     pub fn size(&self) -> u64
         ensures { result ≡ size_of self.now }
     {
-        40 + 4 * u64::from(self.limits.volumes) + size_of_all(self.series.as_slice())
+        40 + 4 * u64::from(self.limits.volumes) + self.bytes
     }
 
     /// Adds a series without leaves, whose name is canonical and new, and gives its number, which is how many there were.
@@ -131,6 +137,7 @@ impl Meta {
             last: 0,
             rescue: [Addr(u64::MAX); LEVELS],
         })?;
+        self.bytes += 106 + name.as_str().len() as u64;
         Ok(number as u32)
     }
 
