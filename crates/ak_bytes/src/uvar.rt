@@ -1,5 +1,5 @@
 //! Numbers below 2^70 as groups of seven bits, the lowest first.
-ghost use Rattle.std.specs.Prelude.{◌≡◌, ℕ, ◌+◌, ◌<◌, ◌≤◌, ◌^◌, ◌↔◌, List, ◌++◌, length, take, drop, IfSome, IfNone};
+ghost use Rattle.std.specs.Prelude.{◌⊎◌, ◌*◌, get_or, ◌≡◌, ℕ, ◌+◌, ◌<◌, ◌≤◌, ◌^◌, ◌↔◌, List, ◌++◌, length, take, drop, IfSome, IfNone};
 ghost use Rattle.ak_bytes.specs.Fields.{IsPut};
 ghost use Rattle.ak_bytes.specs.Uvar.{IsUvar, uvar};
 
@@ -47,6 +47,27 @@ pub fn put_uvar(buf: &mut [u8], at: usize, v: u128) -> Option<usize>
     Some(end + 1)
 }
 
+/// Reads the tenth byte of a number, of which the others gave this value.
+fn read_last(buf: &[u8], end: usize, value: u64, scale: u64) -> Option<(u128, usize)>
+    requires { end < 2 ^ 63 }
+    ensures some { IfSome result (λ found. (end < length buf.now) × (0 < get_or buf.now end 0) × (get_or buf.now end 0 < 128)
+        × (found.0 ≡ value + get_or buf.now end 0 * scale) × (found.1 ≡ end + 1)) }
+    ensures none { IfNone result ((length buf.now ≤ end) ⊎ ((end < length buf.now) × ((get_or buf.now end 0 ≡ 0) ⊎ (128 ≤ get_or buf.now end 0)))) }
+{
+    if end >= buf.len() {
+        return None;
+    }
+    let byte = buf[end];
+    if byte == 0 {
+        return None;
+    }
+    if byte >= 128 {
+        return None;
+    }
+    let found = u128::from(value) + u128::from(byte) * u128::from(scale);
+    Some((found, end + 1))
+}
+
 /// Reads the number that is spelled at a place, and gives the spelling's end. None where no number below 2^70 is spelled
 /// there.
 pub fn get_uvar(buf: &[u8], at: usize) -> Option<(u128, usize)>
@@ -54,9 +75,9 @@ pub fn get_uvar(buf: &[u8], at: usize) -> Option<(u128, usize)>
     ensures some { IfSome result (λ found. (found.0 < 2 ^ 70) × (at < found.1) × (found.1 ≤ length buf.now) × (drop at buf.now ≡ uvar found.0 ++ drop found.1 buf.now)) }
     ensures none { IfNone result ((n : ℕ) (rest : List ℕ) → n < 2 ^ 70 → drop at buf.now ≡ uvar n ++ rest → ⊥) }
 {
-    let mut value: u128 = 0;
-    let mut scale: u128 = 1;
-    for i in 0..LONGEST {
+    let mut value: u64 = 0;
+    let mut scale: u64 = 1;
+    for i in 0..LONGEST - 1 {
         if at + i >= buf.len() {
             return None;
         }
@@ -65,12 +86,12 @@ pub fn get_uvar(buf: &[u8], at: usize) -> Option<(u128, usize)>
             if byte == 0 && i > 0 {
                 return None;
             }
-            return Some((value + u128::from(byte) * scale, at + i + 1));
+            return Some((u128::from(value + u64::from(byte) * scale), at + i + 1));
         }
-        value += u128::from(byte - 128) * scale;
+        value += u64::from(byte - 128) * scale;
         scale *= 128;
     }
-    None
+    read_last(buf, at + LONGEST - 1, value, scale)
 }
 
 /// The spelling of a number is the only row of bytes that the grammar has for it.
