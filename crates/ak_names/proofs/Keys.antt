@@ -1,5 +1,8 @@
 -- Names as keys of a set.
-use Rattle.std.proofs.Common.{◌≡◌, ◌+◌, ℕ, suc, Bool, false, nat_lt, not, ◌||◌, cond, List, [], ◌∷◌, ◌++◌, map, length, position, bytes_eq, Some, None, String, Global, string_bytes, refl, ap, ap₂, sym, ◌∙◌}
+use Rattle.std.proofs.Common.{◌≡◌, ◌+◌, ℕ, suc, Bool, false, nat_lt, not, ◌||◌, cond, List, [], ◌∷◌, ◌++◌, map, length, position, bytes_eq, Some, None, String, Global, string_bytes, refl, ap, ap₂, sym, ◌∙◌, subst, true, IsUtf8, arith}
+use Rattle.std.specs.Cmp.Lexicographic.{bytes_decides}
+use Rattle.std.proofs.lemmas.Bool.Decides.{nat_tests}
+use Rattle.std.proofs.lemmas.Str.{IsUtf8-string_bytes}
 use Rattle.std.specs.List.{prefix_len, list_any}
 use Rattle.std.proofs.lemmas.List.{map-append}
 use Rattle.indexmap.specs.IndexSet.{insert_key}
@@ -28,3 +31,17 @@ added_last k ks name is none =
     let absent : list_any (λ x. bytes_eq (string_bytes k) (string_bytes x)) ks ≡ false =
     rw is (sym (list_any-map string_bytes (λ n. bytes_eq name n) ks) ∙ none) in
     rw (absent, ← is) (map-append string_bytes ks (k ∷ []))
+
+-- a text that is no UTF-8 is no name
+other_at : (text : List ℕ) (k : String Global) (b : Bool) → ¬ (IsUtf8 text) → bytes_eq text (string_bytes k) ≡ b → b ≡ false
+other_at text k true bad e = absurd (bad (subst IsUtf8 (sym ((bytes_decides text (string_bytes k)).0 e)) (IsUtf8-string_bytes k)))
+other_at text k false bad e = refl
+
+none_before : (text : List ℕ) (ks : List (String Global)) → ¬ (IsUtf8 text) → prefix_len (λ n. not (bytes_eq text n)) (map string_bytes ks) ≡ length (map string_bytes ks)
+none_before text [] bad = refl
+none_before text (k ∷ ks) bad =
+    let other : bytes_eq text (string_bytes k) ≡ false = other_at text k (bytes_eq text (string_bytes k)) bad refl in
+    rw other (omega (arith, none_before text ks bad))
+
+pub unknown_text : (text : List ℕ) (ks : List (String Global)) → ¬ (IsUtf8 text) → position (λ n. bytes_eq text n) (map string_bytes ks) ≡ None
+unknown_text text ks bad = rw (none_before text ks bad) (grind (arith, nat_tests))

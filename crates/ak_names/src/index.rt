@@ -6,6 +6,7 @@ use ak_base::Text;
 use indexmap::IndexSet;
 use std::alloc::{AllocError, Global};
 use std::marker::Model;
+use std::str::from_utf8;
 
 /// The names, seen as a list in the order in which they came.
 #[derive(Drop)]
@@ -40,6 +41,20 @@ impl Index {
     {
         let place = self.place(name.as_str())?;
         Some(place as u32)
+    }
+
+    /// The number of the name that has these bytes; `None` exactly where it is unknown.
+    pub fn id_of(&self, name: &[u8]) -> Option<u32>
+        ensures { result ≡ position (λ n. bytes_eq name.now n) self.now }
+    {
+        let _ = &self.names;
+        match from_utf8(name) {
+            Ok(name) => {
+                let place = self.place(name)?;
+                Some(place as u32)
+            }
+            Err(_) => None,
+        }
     }
 
     // The place of a name.
