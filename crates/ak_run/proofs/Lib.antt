@@ -16,3 +16,4 @@ pub mod Texts
 pub mod Timed
 pub mod Turns
 pub mod Valued
+pub mod Known

@@ -1,5 +1,6 @@
 //! What a message asks for.
-ghost use Rattle.std.specs.Prelude.{◌≡◌, ◌≤◌, map, Some, Ok, IfOk};
+ghost use Rattle.std.specs.Prelude.{◌≡◌, ◌≤◌, ◌∷◌, [], map, Some, Ok, IfOk, IfSome};
+ghost use Rattle.ak_names.specs.Names.{DoesName};
 ghost use Rattle.ak_run.specs.Asking.{Asks, PutAsks, OnNames, OnTime};
 ghost use Rattle.ak_run.specs.Fitting.{IsAllowed};
 
@@ -7,7 +8,7 @@ use crate::asked::Asked;
 use crate::queries::ask_query;
 use crate::times::read_put_time;
 use crate::values::read_values;
-use ak_base::{Refusal, Texts};
+use ak_base::{Point, Refusal, Texts, read_value};
 use ak_names::{NameError, metrics, read_names};
 use ak_resp::{Message, Part};
 use std::alloc::{AllocError, Global};
@@ -90,4 +91,20 @@ pub fn ask(alloc: Global, message: &Message, scale: u32) -> Result<Asked, AllocE
         Message::Flush => Ok(Asked::Flush),
         Message::Unknown => Ok(Asked::Refused(Refusal::NoControl)),
     }
+}
+
+/// What a put of a canonical name, and of one value, asks for. None where it asks for a refusal.
+#[tactic(auto, using(crate::proofs::Known::known_asks))]
+pub fn ask_known(name: &[u8], time: &[u8], value: &[u8], scale: u32) -> Option<Point>
+    requires scale { scale ≤ 9 }
+    requires canonical { DoesName name.now (name.now ∷ []) }
+    ensures { IfSome result (λ p. PutAsks scale name.now time.now (value.now ∷ []) (Asked.Points (name.now ∷ []) p.ts (p.value ∷ []))) }
+{
+    let Ok(ts) = read_put_time(time) else {
+        return None;
+    };
+    let Ok(value) = read_value(value, scale) else {
+        return None;
+    };
+    Some(Point { ts, value })
 }

@@ -1,4 +1,4 @@
-use Rattle.std.proofs.Common.{◌≡◌, ℕ, List, position, bytes_eq, None, sym, ◌∙◌, ap, rules}
+use Rattle.std.proofs.Common.{position, bytes_eq, sym, ◌∙◌, ap}
 use Rattle.ak_names.proofs.Keys.{unknown_text}
 use Rattle.ak_names.proofs.index.Index.id_of.Goals as goal
 
