@@ -8,3 +8,5 @@ pub mod Rows
 pub mod Runs
 pub mod Sound
 pub mod Whole
+pub mod Texts
+pub mod Taken

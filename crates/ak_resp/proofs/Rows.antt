@@ -1,5 +1,5 @@
 -- Rows of spellings, how a stream splits, and what comes behind a fault.
-use Rattle.std.proofs.Common.{ℕ, ◌≡◌, ◌+◌, ◌<◌, ◌≤◌, ◌++◌, inl, inr, List, [], ◌∷◌, length, take, drop, get_or, min, Some, suc, refl, sym, subst, ◌∙◌, ap, arith, append_assoc, append-nil, take-append-drop, lit≤}
+use Rattle.std.proofs.Common.{ℕ, ◌≡◌, ◌+◌, ◌<◌, ◌≤◌, ◌++◌, inl, inr, List, [], ◌∷◌, length, take, drop, get_or, min, Some, refl, sym, subst, ◌∙◌, ap, arith, append_assoc, append-nil, take-append-drop, lit≤}
 use Rattle.std.proofs.lemmas.List.{append_cancel_left, length-append, take-take, take-append-le, take_at, get_or_append_left}
 use Rattle.std.proofs.lemmas.Bool.{cases_lt}
 use Rattle.ak_base.proofs.Basics.{longer_front}

@@ -3,3 +3,4 @@ pub mod Kinds
 pub mod Machine
 pub mod Rows
 pub mod Standing
+pub mod Puts

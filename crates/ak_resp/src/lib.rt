@@ -3,10 +3,12 @@
 
 mod fault;
 mod message;
+mod puts;
 mod resp;
 mod spot;
 
 pub use message::{Message, Part, PartKind, Parts, RespError};
+pub use puts::WholePut;
 pub use resp::{Resp, every_reading, fault_stays, one_reading, one_spelling};
 
 #[cfg(test)]

@@ -1,11 +1,13 @@
 //! The reader.
-ghost use Rattle.std.specs.Prelude.{◌≡◌, ◌≢◌, ◌+◌, ◌++◌, ◌∷◌, ◌≤◌, ◌<◌, ◌↔◌, [], List, ℕ, true, false, length, take, drop, IsTrue, IfOk, OnOk, Some, None, Err};
+ghost use Rattle.std.specs.Prelude.{◌≡◌, ◌≢◌, ◌+◌, ◌++◌, ◌∷◌, ◌≤◌, ◌<◌, ◌↔◌, [], List, ℕ, true, false, length, take, drop, IsTrue, IfOk, OnOk, Some, None, Err, IfSome, IfNone};
+ghost use Rattle.ak_resp.specs.Puts.{put_of};
 ghost use Rattle.ak_resp.specs.Grammar.{Spells, Splits, HasFaultAt};
 ghost use Rattle.ak_resp.specs.Standing.{HasRefusal, StandsFor, StandsAfter, TellsFault, OnNone, OnMessage, OnFault, Starts, Continues, refusal_of, is_faulted};
 ghost use Rattle.ak_resp.specs.Machine.{extended, IsRun};
 ghost use Rattle.ak_resp.specs.Rows.{next_reader, said_by, after, said, FeedsOn, Answers};
 
 use crate::message::{Message, RespError};
+use crate::puts::{WholePut, whole_put};
 use crate::spot::{Spot, SpotError};
 use ak_base::Refusal;
 use std::alloc::{AllocError, Global};
@@ -141,6 +143,26 @@ impl Resp {
             Some(refusal) => Err(RespError::Refused(refusal)),
             None => self.next(alloc, piece, at),
         }
+    }
+
+    /// The put that stands whole in the piece from `at` on, where no message has begun and no fault was met. `at` moves past
+    /// it, and the reader stands for the stream with its message read. Elsewhere nothing changes.
+    pub fn whole<'a>(&mut self, piece: &'a [u8], at: &mut usize) -> Option<WholePut<'a>>
+        requires { at.old ≤ length piece.now }
+        ensures within { at.new ≤ length piece.now }
+        ensures moves { IfSome result (λ put. at.old < at.new) }
+        ensures none { IfNone result ((self.new ≡ self.old) × (at.new ≡ at.old)) }
+        ensures sound { IfSome result (λ put. is_faulted self.new ≡ false) }
+        ensures stands { IfSome result (λ put. (row : List ℕ) (messages : List Message) → StandsFor self.old (row ++ take at.old piece.now) messages
+            → StandsFor self.new (row ++ take at.new piece.now) (messages ++ put_of put ∷ [])) }
+    {
+        if self.refusal.is_some() || Spot::is_inside(&self.spot) {
+            return None;
+        }
+        let (put, length) = whole_put(&piece[*at..])?;
+        self.place = self.place.saturating_add(length as u64);
+        *at += length;
+        Some(put)
     }
 
     /// Whether a message has begun. Of a reader with a fault nothing is said.

@@ -445,7 +445,7 @@ impl Spot {
 }
 
 /// How many bytes at the front, of at most `most`, are content of a line.
-fn line_length(bytes: &[u8], most: usize) -> usize
+pub(crate) fn line_length(bytes: &[u8], most: usize) -> usize
     ensures within { result ≤ length bytes.now }
     ensures most { result ≤ most }
     ensures content { All IsLineByte (take result bytes.now) }
@@ -461,7 +461,7 @@ fn line_length(bytes: &[u8], most: usize) -> usize
 }
 
 /// Whether a name is that of a control.
-fn is_control(name: &[u8]) -> bool
+pub(crate) fn is_control(name: &[u8]) -> bool
     ensures { result ≡ is_control name.now }
 {
     match name.first() {
@@ -471,7 +471,7 @@ fn is_control(name: &[u8]) -> bool
 }
 
 /// Whether a byte is a digit.
-fn is_digit(byte: u8) -> bool
+pub(crate) fn is_digit(byte: u8) -> bool
     ensures { result ≡ is_digit byte }
 {
     byte >= b'0' && byte <= b'9'
