@@ -1,4 +1,5 @@
 pub mod Uses
-pub mod Kept
-pub mod Fresh
 pub mod Theirs
+pub mod Distinct
+pub mod Chained
+pub mod Kept

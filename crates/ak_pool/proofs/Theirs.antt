@@ -7,7 +7,7 @@ use Rattle.ak_base.specs.declared.point.Point.{Point}
 use Rattle.ak_pool.specs.Frames.{Used, used_frame, IsUsed, series_of, leaf_of, without, with_leaf, moved_first}
 
 -- the same number, or another
-same_or_other : (m n : ℕ) → (m ≡ n) ⊎ (m ≢ n)
+pub same_or_other : (m n : ℕ) → (m ≡ n) ⊎ (m ≢ n)
 same_or_other m n = elim (eqb_tells m n) [ inl h ↦ inl h.1 | inr h ↦ inr h.1 ]
 
 without_same : (u : Used) (us : List Used) (f : ℕ) → u.frame ≡ f → without (u ∷ us) f ≡ without us f

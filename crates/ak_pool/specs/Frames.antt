@@ -34,6 +34,10 @@ abbrev pub IsUsed : List Used → ℕ → Type 0
 IsUsed [] frame = ⊥
 IsUsed (u ∷ us) frame = (u.frame ≡ frame) ⊎ IsUsed us frame
 
+-- their numbers
+abbrev pub numbers : List Used → List ℕ
+numbers us = map (λ u. u.frame) us
+
 -- the series of the frame with this number, and its leaf
 abbrev pub series_of : List Used → ℕ → ℕ
 series_of [] frame = 0

@@ -1,3 +1,5 @@
+pub mod Chains
 pub mod Frames
 pub mod Lending
+pub mod Links
 pub mod Slots

@@ -1,10 +1,12 @@
 //! The frames and their list.
-ghost use Rattle.std.specs.Prelude.{◌≡◌, ◌<◌, ◌↔◌, length, [], ◌∷◌, IfOk, IfSome, IfNone, IsSome, IsNone};
+ghost use Rattle.std.specs.Prelude.{◌≡◌, ◌<◌, ◌↔◌, length, map, [], ◌∷◌, IfOk, IfSome, IfNone, IsSome, IsNone};
 ghost use Rattle.std.specs.Borrow.{sem};
-ghost use Rattle.ak_pool.specs.Frames.{frames_of, used_frame, AreFrames, IsUsed, series_of, leaf_of, without, moved_first, IsLastFrame};
+ghost use Rattle.ak_pool.specs.Frames.{frames_of, used_frame, numbers, AreFrames, IsUsed, series_of, leaf_of, without, moved_first, IsLastFrame};
 ghost use Rattle.ak_pool.specs.Lending.{LendsLeaf};
+ghost use Rattle.ak_pool.specs.Links.{none, AreOlder, AreNewer};
 
-use crate::slot::{Slot, place_of};
+use crate::links::{Chains, Link, NONE};
+use crate::slot::Slot;
 use ak_leaf::LeafBuf;
 use std::alloc::{AllocError, Global};
 use std::marker::Model;
@@ -16,21 +18,20 @@ pub struct Frame(pub u32);
 /// Frames that hold the points of open leaves, seen as the list of the used ones, the most recently written first.
 #[derive(Drop)]
 pub struct Pool {
-    frames: u32,
-    used: Vec<Slot>,
-    free: Vec<Slot>,
+    slots: Vec<Slot>,
+    chains: Chains,
 }
 
 impl Model for Pool {
-    ghost use Rattle.std.specs.Prelude.{vec_capacity};
+    ghost use Rattle.std.specs.Prelude.{length};
     ghost use Rattle.ak_pool.specs.Frames.{Frames, frames_of};
     ghost use Rattle.ak_pool.specs.Slots.{all_used, KeepsFrames};
 
     ghost Value = { Frames };
 
-    ghost view = { λ p. frames_of p.frames (all_used p.used.items) };
+    ghost view = { λ p. frames_of (length p.slots.items) (all_used p.slots.items p.chains) };
 
-    ghost invariant = { λ p. KeepsFrames p.frames p.used.items (vec_capacity p.used) p.free.items (vec_capacity p.free) };
+    ghost invariant = { λ p. KeepsFrames p.slots.items p.chains };
 }
 
 impl Pool {
@@ -38,17 +39,25 @@ impl Pool {
     pub fn new(alloc: Global, frames: u32) -> Result<Pool, AllocError>
         ensures { IfOk result (λ pool. pool ≡ frames_of frames []) }
     {
-        let used = Vec::with_capacity(alloc, frames as usize)?;
-        let mut free = Vec::with_capacity(alloc, frames as usize)?;
+        let mut slots = Vec::with_capacity(alloc, frames as usize)?;
+        let mut links = Vec::with_capacity(alloc, frames as usize)?;
+        let mut free = NONE;
         for frame in 0..frames {
             let leaf = LeafBuf::new(alloc)?;
-            free.push(Slot {
-                frame,
-                series: 0,
-                leaf,
+            slots.push(Slot { series: 0, leaf })?;
+            links.push(Link {
+                newer: NONE,
+                older: free,
             })?;
+            free = frame;
         }
-        Ok(Pool { frames, used, free })
+        let chains = Chains {
+            links,
+            first: NONE,
+            last: NONE,
+            free,
+        };
+        Ok(Pool { slots, chains })
     }
 
     /// Takes a free frame for a series, with an empty leaf, and puts it first. None where all frames are used; then
@@ -60,14 +69,14 @@ impl Pool {
         ensures none { IfNone result (self.new ≡ self.old) }
         ensures valid { AreFrames self.new }
     {
-        let Some(mut taken) = self.free.pop() else {
+        let Some(frame) = self.chains.take_free() else {
             return None;
         };
-        let frame = Frame(taken.frame);
-        taken.series = series;
-        taken.leaf.clear();
-        self.used.insert(0, taken).unwrap();
-        Some(frame)
+        self.chains.put_first(frame);
+        let slot = &mut self.slots[frame as usize];
+        slot.series = series;
+        slot.leaf.clear();
+        Some(Frame(frame))
     }
 
     /// Moves a used frame to the front of the list.
@@ -76,9 +85,8 @@ impl Pool {
         ensures moved { self.new ≡ frames_of self.old.count (moved_first self.old.used f.0) }
         ensures valid { AreFrames self.new }
     {
-        let place = place_of(self.used.as_slice(), f.0);
-        let slot = self.used.remove(place);
-        self.used.insert(0, slot).unwrap();
+        self.chains.detach(f.0);
+        self.chains.put_first(f.0);
     }
 
     /// Frees a used frame.
@@ -87,9 +95,8 @@ impl Pool {
         ensures given { self.new ≡ frames_of self.old.count (without self.old.used f.0) }
         ensures valid { AreFrames self.new }
     {
-        let place = place_of(self.used.as_slice(), f.0);
-        let given = self.used.remove(place);
-        self.free.push(given).unwrap();
+        self.chains.detach(f.0);
+        self.chains.put_free(f.0);
     }
 
     /// The series that uses the frame.
@@ -97,8 +104,7 @@ impl Pool {
         requires { IsUsed self.now.used f.0 }
         ensures { result ≡ series_of self.now.used f.0 }
     {
-        let place = place_of(self.used.as_slice(), f.0);
-        self.used[place].series
+        self.slots[f.0 as usize].series
     }
 
     /// The leaf of a used frame.
@@ -106,8 +112,7 @@ impl Pool {
         requires { IsUsed self.now.used f.0 }
         ensures { result.now ≡ leaf_of self.now.used f.0 }
     {
-        let place = place_of(self.used.as_slice(), f.0);
-        &self.used[place].leaf
+        &self.slots[f.0 as usize].leaf
     }
 
     /// The leaf of a used frame, to be written. All else stays.
@@ -116,8 +121,7 @@ impl Pool {
         ensures value { result.now ≡ leaf_of self.old.used f.0 }
         ensures* writes_back { sem 𝓛 (LendsLeaf self.entry f.0 result) }
     {
-        let place = place_of(self.used.as_slice(), f.0);
-        let slot = &mut self.used[place];
+        let slot = &mut self.slots[f.0 as usize];
         &mut slot.leaf
     }
 
@@ -127,9 +131,19 @@ impl Pool {
         ensures none { IsNone result ↔ (self.now.used ≡ []) }
         ensures valid { AreFrames self.now }
     {
-        match self.used.as_slice() {
-            [] => None,
-            [.., slot] => Some(Frame(slot.frame)),
+        if self.chains.last == NONE {
+            return None;
         }
+        Some(Frame(self.chains.last))
+    }
+
+    /// The links of the frames: item i is that of `Frame(i)`. That of a used frame has the frame before it in the list
+    /// as `newer` and the frame after it as `older`.
+    pub fn links(&self) -> &[Link]
+        ensures each { length result.now ≡ self.now.count }
+        ensures newer { AreNewer result.now none (numbers self.now.used) }
+        ensures older { AreOlder result.now (numbers self.now.used) }
+    {
+        self.chains.links.as_slice()
     }
 }

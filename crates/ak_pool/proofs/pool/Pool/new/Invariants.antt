@@ -1,7 +1,13 @@
-use Rattle.std.proofs.Common.{◌≤◌}
-use Rattle.std.specs.Vec.{vec_capacity}
-use Rattle.ak_pool.proofs.Fresh.{AreFresh}
+use Rattle.std.proofs.Common.{◌≡◌, ◌≤◌, length}
+use Rattle.ak_pool.specs.Links.{none, first_of, AreOlder}
+use Rattle.ak_pool.proofs.Chained.{countdown}
 use Rattle.ak_pool.proofs.pool.Pool.new.Given as goal
 
 abbrev pub invariant-loop-frame : goal.invariant-loop-frame
-invariant-loop-frame l = record { fresh : AreFresh l.frame l.free.items; room : l.frames ≤ vec_capacity l.free }
+invariant-loop-frame l = record {
+  slots : length l.slots.items ≡ l.frame;
+  links : length l.links.items ≡ l.frame;
+  free : l.free ≡ first_of (countdown l.frame);
+  chained : AreOlder l.links.items (countdown l.frame);
+  few : l.frame ≤ none;
+}

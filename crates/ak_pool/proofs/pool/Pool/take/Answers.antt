@@ -1,33 +1,43 @@
-use Rattle.std.proofs.Common.{◌≡◌, List, [], ◌∷◌, ◌++◌, sym, ap, ◌∙◌, subst, arith}
-use Rattle.std.specs.Vec.{vec_capacity}
+use Rattle.std.proofs.Common.{◌≡◌, ℕ, ◌<◌, List, [], ◌∷◌, length, refl, sym, ap, ◌∙◌, subst, arith}
+use Rattle.std.proofs.lemmas.List.{length-set}
+use Rattle.std.proofs.Math.ListN.{set}
 use Rattle.ak_base.specs.declared.point.Point.{Point}
-use Rattle.ak_pool.specs.Frames.{Frames, IsUsed}
-use Rattle.ak_pool.specs.Slots.{KeepsFrames}
+use Rattle.ak_pool.specs.Frames.{Frames, frames_of, used_frame, IsUsed}
+use Rattle.ak_pool.specs.Slots.{all_used, KeepsFrames}
 use Rattle.ak_pool.specs.declared.slot.Slot.{Slot}
-use Rattle.ak_pool.proofs.Kept.{for_series, kept_taken, taken_unused, frames_kept}
+use Rattle.ak_pool.proofs.Kept.{kept_taken, taken_seen, taken_unused, all_are_used, one_is_free, frames_kept}
 use Rattle.ak_pool.proofs.pool.Pool.take.Goals as goal
 
-kept : (c : goal.After-unwrap) → KeepsFrames c.self.inside.frames c.self.inside.used.items (vec_capacity c.self.inside.used) (c.pop.new.self.items ++ c.in-Some.taken ∷ []) (vec_capacity c.self.inside.free)
-kept c =
-    let popped : c.self.inside.free.items ≡ c.pop.new.self.items ++ c.in-Some.taken ∷ [] = c.in-Some.ensures.items in
-    subst (λ (l : List Slot). KeepsFrames c.self.inside.frames c.self.inside.used.items (vec_capacity c.self.inside.used) l (vec_capacity c.self.inside.free)) popped c.self.invariant
+pub returns-in_default-clause-some : goal.returns-in_default-clause-some
+returns-in_default-clause-some c =
+    let all = subst (λ (v : Frames). length v.used ≡ v.count) c.self.view_is (all_are_used _ _ c.self.invariant c.in_default.ensures.none.1) in
+    ((λ e. cc), λ h. absurd (omega arith))
 
-items : (c : goal.After-unwrap) → c.insert.new.self.items ≡ for_series c.in-Some.taken c.args.series ∷ c.self.inside.used.items
-items c =
-    let slot : List Point → Slot = λ points. record { frame = c.in-Some.taken.frame; series = c.args.series; leaf = points } in
-    let put : c.insert.new.self.items ≡ slot c.clear.new.self ∷ c.self.inside.used.items = rw c.unwrap.ensures at c.insert.ensures.items in
-    put ∙ ap (λ (points : List Point). slot points ∷ c.self.inside.used.items) c.clear.ensures
+pub returns-in_default-clause-valid : goal.returns-in_default-clause-valid
+returns-in_default-clause-valid c = frames_kept _ _ (subst (KeepsFrames c.self.inside.slots.items) (sym c.in_default.ensures.none.0) c.self.invariant)
 
-pub invariant_of-self-2 : goal.invariant_of-self-2
-invariant_of-self-2 c =
-    subst (λ (l : List Slot). KeepsFrames c.self.inside.frames l (vec_capacity c.insert.new.self) c.pop.new.self.items (vec_capacity c.pop.new.self)) (sym (items c))
-    (kept_taken _ _ _ _ _ _ _ _ _ (kept c)
-    (omega (arith, c.self.invariant.used_fits, c.insert.ensures.capacity))
-    (omega (arith, c.self.invariant.free_fits, c.pop.ensures.capacity)))
+pub returns-clause-some : goal.returns-clause-some
+returns-clause-some c =
+    let some = subst (λ (v : Frames). length v.used < v.count) c.self.view_is (one_is_free _ _ _ _ c.self.invariant c.in-Some.ensures.some) in
+    ((λ _. some), λ _. refl)
+
+pub returns-clause-taken : goal.returns-clause-taken
+returns-clause-taken c =
+    let slots = c.self.inside.slots.items in
+    let f = c.in-Some.frame in
+    let s : Slot = record { series = c.args.series; leaf = c.clear.new.self } in
+    let same : all_used (set slots f s) c.put_first.new.self ≡ used_frame f c.args.series [] ∷ all_used slots c.self.inside.chains =
+    taken_seen _ _ _ _ f s c.self.invariant c.in-Some.ensures.some c.put_first.ensures.chains (c.put_first.ensures.each ∙ c.take_free.ensures.each)
+    ∙ ap (λ (l : List Point). used_frame f c.args.series l ∷ all_used slots c.self.inside.chains) c.clear.ensures in
+    subst (λ (v : Frames). frames_of (length (set slots f s)) (all_used (set slots f s) c.put_first.new.self) ≡ frames_of v.count (used_frame f c.args.series [] ∷ v.used)) c.self.view_is
+    (rw same (ap (λ (n : ℕ). frames_of n (used_frame f c.args.series [] ∷ all_used slots c.self.inside.chains)) (length-set slots f s)))
 
 pub returns-clause-unused : goal.returns-clause-unused
 returns-clause-unused c =
-    subst (λ (v : Frames). IsUsed v.used c.in-Some.taken.frame → ⊥) c.self.view_is (taken_unused _ _ _ _ _ _ (kept c))
+    subst (λ (v : Frames). IsUsed v.used c.in-Some.frame → ⊥) c.self.view_is (taken_unused _ _ _ _ _ c.self.invariant c.in-Some.ensures.some c.put_first.ensures.chains)
 
 pub returns-clause-valid : goal.returns-clause-valid
-returns-clause-valid c = frames_kept _ _ _ _ _ (invariant_of-self-2 c)
+returns-clause-valid c =
+    frames_kept _ _
+    (kept_taken _ _ _ _ c.in-Some.frame (record { series = c.args.series; leaf = c.clear.new.self }) c.self.invariant c.in-Some.ensures.some c.put_first.ensures.chains
+    (c.put_first.ensures.each ∙ c.take_free.ensures.each))
