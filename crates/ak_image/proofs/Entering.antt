@@ -14,7 +14,7 @@ use Rattle.ak_image.proofs.Growing.{IsGrownOf}
 use Rattle.ak_image.proofs.Lifting.{carry_within, fresh_of, takes_raised, child_raised, waiting_under, waiting_past, waiting_here, all_some, totals_join, some_of, begins_from, orderly_of}
 use Rattle.ak_image.proofs.Numbered.{number_at, address_at, address_other, between_one, between_other}
 use Rattle.ak_image.proofs.Places.{live_at}
-use Rattle.ak_image.proofs.Rescuing.{point_new, point_old, leaves_in, last_same, rescue_same, chain_in, leaves_few}
+use Rattle.ak_image.proofs.Rescuing.{point_new, point_old, leaves_in, last_same, rescue_same, chain_in}
 use Rattle.ak_image.proofs.StepBlocks.{some_points}
 use Rattle.ak_image.proofs.StepChains.{chain_more}
 use Rattle.ak_image.specs.Blocks.{Seen}
@@ -30,6 +30,7 @@ use Rattle.ak_levels.specs.Carries.{carry_of}
 use Rattle.ak_levels.specs.Closes.{leaf_ref, taken, closed_lists}
 use Rattle.ak_levels.specs.Orders.{all_below, AreInOrder}
 use Rattle.ak_levels.specs.Pending.{Lists}
+use Rattle.ak_meta.proofs.Closing.{leaves_most}
 use Rattle.ak_meta.proofs.Rooms.{filled_lawful}
 use Rattle.ak_meta.specs.Contents.{Content, IsMeta, rescue_at}
 use Rattle.ak_meta.specs.Leaves.{leaves_at, with_leaf}
@@ -179,4 +180,4 @@ planted_group old new c kept n base ps v is laid within fits history written nod
     let each = all_some new n more.before (leaves ++ leaf ∷ []) (rescue_at (with_leaf known (last_ts_from 0 ps) (spot o)).rescue 0) more.links in
     let keeps : (b : ℕ) (node : Node) → Reads o old b node → Reads (filled o group) new b node =
     λ b node reads. (live_still o group b is.ordinals_are reads.0, node_same old new b node (written.same b reads.0) reads.1) in
-    planted_more old new o (filled o group) n base m (spot o) known leaves ps v (leaves_few c n is) count levels numbers each keeps (λ k h. live_group c group k is fits (omega (arith, h))) own nodes refl from (some_points new n (rescue_at known.rescue 0) leaf own) planted
+    planted_more old new o (filled o group) n base m (spot o) known leaves ps v (omega (arith, leaves_most c n is)) count levels numbers each keeps (λ k h. live_group c group k is fits (omega (arith, h))) own nodes refl from (some_points new n (rescue_at known.rescue 0) leaf own) planted

@@ -18,3 +18,4 @@ pub mod Rescuing
 pub mod Entering
 pub mod Moving
 pub mod Raising
+pub mod Naming

@@ -1,6 +1,5 @@
 -- What a record says of a series once a leaf is entered.
-use Rattle.std.proofs.Common.{inl, inr, ◌≡◌, ◌+◌, ◌-◌, ◌*◌, ◌^◌, ◌<◌, ◌≤◌, ℕ, zero, suc, List, [], ◌∷◌, ◌++◌, length, drop, refl, sym, ◌∙◌, subst, arith}
-use Rattle.std.proofs.Math.Nat.{mul-le-mul_right}
+use Rattle.std.proofs.Common.{inl, inr, ◌≡◌, ◌+◌, ◌<◌, ◌≤◌, ℕ, zero, suc, List, [], ◌∷◌, ◌++◌, length, drop, refl, sym, ◌∙◌, subst, arith}
 use Rattle.std.proofs.lemmas.Bool.{cases_lt}
 use Rattle.std.proofs.lemmas.Bool.Decides.{nat_tests}
 use Rattle.ak_base.specs.declared.point.Addr.{Addr}
@@ -9,14 +8,13 @@ use Rattle.ak_image.proofs.Lifting.{carry_within, carry_past}
 use Rattle.ak_image.specs.Blocks.{Seen}
 use Rattle.ak_image.specs.Chains.{IsChain}
 use Rattle.ak_image.specs.Laid.{AreLaid, rescue_in, last_in, kept_in, series_in}
-use Rattle.ak_image.specs.Trees.{point_of}
+use Rattle.ak_image.specs.Trees.{IsTreeOf, AreTreed, point_of}
 use Rattle.ak_levels.specs.Carries.{carry_of}
-use Rattle.ak_meta.proofs.Closing.{some_leaves, fill_most}
 use Rattle.ak_meta.proofs.Levels.{carry_most}
-use Rattle.ak_meta.specs.Contents.{Content, IsMeta, rescue_at}
+use Rattle.ak_meta.specs.Contents.{rescue_at}
 use Rattle.ak_meta.specs.Leaves.{leaves_at, addresses_from, with_leaf}
 use Rattle.ak_meta.specs.declared.meta.SeriesMeta.{SeriesMeta}
-use Rattle.ak_volumes.specs.Ordinals.{newest, newest_fill}
+use Rattle.ak_volumes.specs.Ordinals.{Ordinals}
 use Rattle.ak_world.specs.Leaves.{Leaf}
 use Rattle.ak_world.specs.Views.{none}
 
@@ -38,7 +36,7 @@ rescued_old (suc count) a (suc k) [] h = none_behind count (a + 1) k (omega arit
     none_behind (suc n) b (suc j) g = none_behind n (b + 1) j (omega arith)
 rescued_old (suc count) a (suc k) (r ∷ rescue) h = rescued_old count (a + 1) k rescue (omega arith)
 
-point_low : (rescue : List Addr) (k : ℕ) → k ≤ 10 → point_of rescue k ≡ rescue_at rescue k
+pub point_low : (rescue : List Addr) (k : ℕ) → k ≤ 10 → point_of rescue k ≡ rescue_at rescue k
 point_low rescue k low = grind (arith, nat_tests)
 
 point_high : (rescue : List Addr) (k : ℕ) → 10 < k → point_of rescue k ≡ none
@@ -59,6 +57,11 @@ point_old known last a m k is h =
     ]
 
 -- ---- One series of all
+
+pub leaves_past : (series : List SeriesMeta) (n : ℕ) → length series ≤ n → leaves_at series n ≡ 0
+leaves_past [] n past = refl
+leaves_past (s ∷ series) zero past = absurd (omega arith)
+leaves_past (s ∷ series) (suc n) past = leaves_past series n (omega arith)
 
 pub leaves_in : (series : List SeriesMeta) (n : ℕ) → (series_in series n).leaves ≡ leaves_at series n
 leaves_in [] n = refl
@@ -84,10 +87,10 @@ chain_in seen lo fills k (suc n) (s ∷ series) kept within are =
     subst (λ (all : List (List Leaf)). IsChain seen lo (k + suc n) (series_in series n) (kept_in all (suc n))) (sym are.2)
     (subst (λ (x : ℕ). IsChain seen lo x (series_in series n) (kept_in are.1 n)) (let e : suc k + n ≡ k + suc n = omega arith in e) (chain_in seen lo fills (suc k) n series are.1 (omega arith) are.5))
 
--- there are too few blocks for more leaves
-pub leaves_few : (c : Content) (n : ℕ) → IsMeta c → suc (leaves_at c.series n) < 32 ^ 11
-leaves_few c n is =
-    let o = c.ordinals in
-    let ordinals : newest o * o.blocks ≤ 2 ^ 32 * o.blocks = mul-le-mul_right o.blocks (let e : newest o ≤ 2 ^ 32 = omega (arith, is.ordinals_are.last) in e) in
-    let fill : newest_fill o ≤ o.blocks = fill_most o.blocks o.fills (length o.fills - 1) is.ordinals_are.within in
-    omega (arith, ordinals, fill, is.limits_are.blocks_most, is.blocks, is.total, some_leaves c.series n)
+pub tree_in : (o : Ordinals) (seen : Seen) (k n : ℕ) (series : List SeriesMeta) (kept : List (List Leaf)) → n < length series → AreTreed o seen k series kept → IsTreeOf o seen (k + n) (series_in series n) (kept_in kept n)
+tree_in o seen k n [] kept within are = absurd (omega arith)
+tree_in o seen k n (s ∷ series) [] within are = absurd are
+tree_in o seen k zero (s ∷ series) (leaves ∷ kept) within are = let same : k ≡ k + 0 = omega arith in subst (λ (x : ℕ). IsTreeOf o seen x s leaves) same are.0
+tree_in o seen k (suc n) (s ∷ series) (leaves ∷ kept) within are =
+    let same : suc k + n ≡ k + suc n = omega arith in
+    subst (λ (x : ℕ). IsTreeOf o seen x (series_in series n) (kept_in kept n)) same (tree_in o seen (suc k) n series kept (omega arith) are.1)

@@ -1,8 +1,8 @@
 -- The blocks of a disk by their addresses.
-use Rattle.std.specs.Prelude.{ℕ, ◌+◌, ◌%◌, ◌<◌, ◌≤◌, List, length, slice_index}
+use Rattle.std.specs.Prelude.{ℕ, ◌<◌, ◌≤◌, List, length, slice_index}
 use Rattle.ak_host.specs.Files.{Files, file_at, block_at}
 use Rattle.ak_host.specs.Moments.{HostState}
-use Rattle.ak_volumes.specs.Ordinals.{Ordinals, ordinal_of, index_of}
+use Rattle.ak_volumes.specs.Ordinals.{Ordinals, ordinal_of, index_of, file_in}
 
 -- the block at each address
 abbrev pub Seen : Type 0
@@ -10,7 +10,7 @@ Seen = ℕ → List ℕ
 
 -- as a disk with so many volumes reads: an ordinal stands in the file of its volume
 abbrev pub seen_in : ℕ → Files → Seen
-seen_in volumes disk a = block_at disk (1 + ordinal_of a % volumes) (index_of a)
+seen_in volumes disk a = block_at disk (file_in volumes (ordinal_of a)) (index_of a)
 
 -- the file of each volume is there, with so many blocks at least
 abbrev pub HasVolumes : ℕ → ℕ → Files → Type 0

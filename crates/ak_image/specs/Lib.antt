@@ -7,3 +7,4 @@ pub mod Chains
 pub mod Images
 pub mod Laid
 pub mod Planted
+pub mod Named

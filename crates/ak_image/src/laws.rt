@@ -5,6 +5,7 @@ ghost use Rattle.ak_host.specs.Files.{Files};
 ghost use Rattle.ak_image.specs.Blocks.{Seen, seen_in, HasVolumes};
 ghost use Rattle.ak_image.specs.Images.{AreAlike, IsSound, StandsFor};
 ghost use Rattle.ak_image.specs.Laid.{IsLaid};
+ghost use Rattle.ak_image.specs.Named.{IsDamagedNode};
 ghost use Rattle.ak_image.specs.Nodes.{IsInnerOf, IsNodeAt};
 ghost use Rattle.ak_meta.specs.Contents.{Content, IsMeta};
 ghost use Rattle.ak_record.specs.Records.{frame_for, HasNewest};
@@ -31,6 +32,12 @@ pub fn one_node()
         → (x.level ≡ y.level) × (x.series ≡ y.series) × (x.number ≡ y.number) × (x.elder ≡ y.elder) × (x.references ≡ y.references)
         × (x.level ≡ 0 → x.value ≡ y.value) }
     ensures block { (seen other : Seen) (a : ℕ) (node : Node) → IsInnerOf seen a node → IsInnerOf other a node → seen a ≡ other a }
+{}
+
+/// Where the live blocks are laid out as a record says, no node that it names is damaged.
+pub fn none_damaged()
+    ensures { (seen : Seen) (c : Content) (kept : List (List Leaf)) → IsLaid seen c kept
+        → (file block : ℕ) → IsDamagedNode seen c.ordinals c file block → ⊥ }
 {}
 
 /// An image stands for one view at most.

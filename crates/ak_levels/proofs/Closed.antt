@@ -51,6 +51,7 @@ emptied_room v k j h room = record {
 
 pub lawful_emptied : (v : Lists) (m k : ℕ) → AreLawful m v → AreLawful m (emptied v k)
 lawful_emptied v m k are = record {
+  most = are.most;
   few = λ j top. elim (cases_lt j k) [
     | inl below ↦ omega (arith, ap (length {A = Ref}) (emptied_below v k j below))
     | inr from ↦ omega (arith, ap (length {A = Ref}) (emptied_at v k j from), are.few j top)
@@ -63,7 +64,7 @@ lawful_emptied v m k are = record {
 }
 
 pub lawful_placed : (v : Lists) (m count : ℕ) → AreLawful m v → AreLawful m (with_places v count)
-lawful_placed v m count are = record { few = are.few; each = are.each; placed = λ j top reached. keeps_places count v.placed j (are.placed j top reached) }
+lawful_placed v m count are = record { most = are.most; few = are.few; each = are.each; placed = λ j top reached. keeps_places count v.placed j (are.placed j top reached) }
 
 -- THE REFERENCE THAT COMES TO A LEVEL
 pub free_at : (v : Lists) (m k : ℕ) → AreLawful m v → k ≤ 10 → length (pending_at v k) < 32
@@ -178,9 +179,10 @@ placed_closed v m leaf k are room top reached = ap (λ (bs : List Bool). get_or 
   | inr within ↦ (room k within).placed
 ]
 
-pub closed_lawful : (v : Lists) (m : ℕ) (leaf : Ref) → m < 2 ^ 53 → AreLawful m v → IsTally 0 leaf → ((k : ℕ) → k ≤ carry_of m → HasRoom v k) → AreLawful (suc m) (closed_lists v m leaf)
+pub closed_lawful : (v : Lists) (m : ℕ) (leaf : Ref) → m < 2 ^ 52 → AreLawful m v → IsTally 0 leaf → ((k : ℕ) → k ≤ carry_of m → HasRoom v k) → AreLawful (suc m) (closed_lists v m leaf)
 closed_lawful v m leaf small are tally room = record {
-  few = λ k top. few_closed v m leaf k small are top;
+  most = omega arith;
+  few = λ k top. few_closed v m leaf k (omega arith) are top;
   each = λ k top. each_closed v m leaf k are tally top;
   placed = λ k top reached. placed_closed v m leaf k are room top reached;
 }

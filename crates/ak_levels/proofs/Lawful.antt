@@ -13,6 +13,7 @@ none_of (suc n) (suc k) = none_of n k
 
 pub no_lists_lawful : AreLawful 0 no_lists
 no_lists_lawful = record {
+  most = omega arith;
   few = λ k h. omega (arith, ap (length {A = Ref}) (none_of 11 k));
   each = λ k h. subst (AllByRecursion (IsTally k)) (sym (none_of 11 k)) tt;
   placed = λ k h more. absurd (omega (arith, more, power_pos k));

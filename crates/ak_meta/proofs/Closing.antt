@@ -1,11 +1,11 @@
 -- A leaf more of a series.
 use Rattle.std.proofs.Common.{◌≡◌, ◌+◌, ◌-◌, ◌*◌, ◌/◌, ◌%◌, ◌^◌, ◌<◌, ◌≤◌, ℕ, zero, suc, List, [], ◌∷◌, length, map, sum, get_or, slice_set, refl, sym, ap, ◌∙◌, arith, div-add-mod'}
-use Rattle.std.proofs.Math.Nat.{mul-le-mul}
+use Rattle.std.proofs.Math.Nat.{mul-le-mul, mul-le-mul_right}
 use Rattle.std.proofs.lemmas.List.Sums.{sum_by-cons}
 use Rattle.std.specs.List.{AllByRecursion}
 use Rattle.ak_volumes.specs.Ordinals.{Ordinals, AreOrdinals, newest, newest_fill, ordinal_of, fill_of}
 use Rattle.ak_meta.specs.declared.meta.SeriesMeta.{SeriesMeta}
-use Rattle.ak_meta.specs.Contents.{leaves_of, room_of}
+use Rattle.ak_meta.specs.Contents.{Content, IsMeta, leaves_of, room_of}
 use Rattle.ak_meta.specs.Leaves.{with_leaf, with_leaf_at, leaves_at, IsEntered}
 
 pub leaves_cons : (s : SeriesMeta) (all : List SeriesMeta) → leaves_of (s ∷ all) ≡ s.leaves + leaves_of all
@@ -39,6 +39,14 @@ pub fill_most : (blocks : ℕ) (fills : List ℕ) (n : ℕ) → AllByRecursion (
 fill_most blocks [] n each = omega arith
 fill_most blocks (f ∷ fills) zero each = each.0
 fill_most blocks (f ∷ fills) (suc n) each = fill_most blocks fills n each.1
+
+-- each leaf has a block
+pub leaves_most : (c : Content) (n : ℕ) → IsMeta c → leaves_at c.series n ≤ 2 ^ 52
+leaves_most c n is =
+    let o = c.ordinals in
+    let ordinals : newest o * o.blocks ≤ (2 ^ 32 - 1) * o.blocks = mul-le-mul_right o.blocks (let e : newest o ≤ 2 ^ 32 - 1 = omega (arith, is.ordinals_are.last) in e) in
+    let fill : newest_fill o ≤ o.blocks = fill_most o.blocks o.fills (length o.fills - 1) is.ordinals_are.within in
+    omega (arith, ordinals, fill, is.limits_are.blocks_most, is.blocks, is.total, some_leaves c.series n)
 
 -- the addresses of a group are below the last one
 pub group_fits : (o : Ordinals) (a nodes : ℕ) → AreOrdinals o → IsEntered o a nodes → a + nodes < 2 ^ 64 - 1

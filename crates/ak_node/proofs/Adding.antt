@@ -23,8 +23,8 @@ use Rattle.ak_node.proofs.Naming.{titles, titles_known, with_one, with_title, kn
 use Rattle.ak_node.proofs.Late.{Below, not_late, late_none, both_none}
 use Rattle.ak_node.proofs.Looking.{knows, size_one, rest_at}
 use Rattle.ak_pool.specs.declared.pool.Frame.{Frame}
-use Rattle.ak_tree.specs.Later.{Becomes}
-use Rattle.ak_tree.proofs.Becoming.{becomes_same, becomes_on, becomes_named}
+use Rattle.ak_tree.specs.Later.{KeepsOrigins}
+use Rattle.ak_tree.proofs.Becoming.{origins_same, origins_named}
 use Rattle.ak_tree.specs.Standing.{Trees, trees, AreTrees, IsReady, Keeps, Holds, leaf_in, last_of_series, last_behind, last_known, base_of, bases_of}
 use Rattle.ak_tree.proofs.AddingSeries.{size_named}
 use Rattle.ak_tree.proofs.Planted.{all_named}
@@ -426,14 +426,15 @@ late_added f new known now more (name ∷ names) ts are known_are now_is stays l
     (late_none (last_in_place new (place_in now name)) ts (here_below f new known now more name ts are known_are now_is stays (not_late (last_in_place f (place_in known name)) ts both.0)))
     (late_added f new known now more names ts are known_are now_is stays both.1)
 
--- ---- What a record becomes with names
+-- ---- What a record has become with names
 
-maybe_with : (c : Content) (name : List ℕ) (known : Bool) → Becomes c (if known then c else with_series c name)
-maybe_with c name true = becomes_same c
-maybe_with c name false = becomes_named c name
+named_keeps : (host : HostState) (c : Content) (name : List ℕ) (known : Bool) → KeepsOrigins host host c (if known then c else with_series c name)
+named_keeps host c name true = origins_same host host c refl
+named_keeps host c name false = origins_named host c name
 
-pub becomes_all : (names : List (List ℕ)) (c : Content) → Becomes c (with_all c names)
-becomes_all [] c = becomes_same c
-becomes_all (name ∷ names) c =
-    let one = maybe_with c name (list_any (λ n. bytes_eq name n) (names_of c.series)) in
-    becomes_on one (becomes_all names (if list_any (λ n. bytes_eq name n) (names_of c.series) then c else with_series c name))
+pub all_keep : (host : HostState) (names : List (List ℕ)) (c : Content) → KeepsOrigins host host c (with_all c names)
+all_keep host [] c = origins_same host host c refl
+all_keep host (name ∷ names) c =
+    let one = named_keeps host c name (list_any (λ n. bytes_eq name n) (names_of c.series)) in
+    let rest = all_keep host names (if list_any (λ n. bytes_eq name n) (names_of c.series) then c else with_series c name) in
+    λ found was. rest found (one found was)

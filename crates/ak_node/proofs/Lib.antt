@@ -1,6 +1,7 @@
 pub mod Accepting
 pub mod Adding
 pub mod Answering
+pub mod Blaming
 pub mod Chained
 pub mod Cutting
 pub mod Flushing

@@ -15,7 +15,7 @@ use Rattle.ak_node.specs.declared.session.Session.{Session}
 use Rattle.ak_record.proofs.Refusals.{newest_is_store}
 use Rattle.ak_record.specs.Records.{IsRecord}
 use Rattle.ak_record.specs.Stops.{IsNoStore, IsDamagedAt, IsShortAt, IsDamaged, IsOpenStop, AreMade}
-use Rattle.ak_repair.specs.Damage.{IsDamagedNode}
+use Rattle.ak_image.specs.Named.{IsDamagedNode}
 use Rattle.ak_repair.specs.Firsts.{firsts}
 use Rattle.ak_repair.specs.Reads.{IsReadStop}
 use Rattle.ak_run.specs.Run.{world_of as run_of}
@@ -331,9 +331,9 @@ open_sound told t old new sound Exists why = absurd why
 
 -- why a store isn't opened, while what waits of its series is rebuilt
 pub stop_repaired : (told : Type 0) (number : ℕ) (found : Content) (old mid new : HostState) (s : Stop) → (told → IsFoundRecord number found old.files) → old.disk_faults ≤ mid.disk_faults
-    → (told → new.files ≡ mid.files) → IsReadStop (λ file block. told → IsDamagedNode found file block mid.files) mid new s → IsNodeOpenStop told old new s
+    → (told → new.files ≡ mid.files) → IsReadStop (λ file block. told → IsDamagedNode (seen_in found.ordinals.volumes mid.files) found.ordinals found file block) mid new s → IsNodeOpenStop told old new s
 stop_repaired told number found old mid new (Damaged file block) record_is later files why =
-    λ t. inr (number, found, record_is t, subst (IsDamagedNode found file block) (sym (files t)) (why t))
+    λ t. inr (number, found, record_is t, subst (λ (read : Files). IsDamagedNode (seen_in found.ordinals.volumes read) found.ordinals found file block) (sym (files t)) (why t))
 stop_repaired told number found old mid new Disk record_is later files why = omega (arith, later, why)
 stop_repaired told number found old mid new Memory record_is later files why = tt
 stop_repaired told number found old mid new NoStore record_is later files why = absurd why

@@ -9,20 +9,21 @@ use Rattle.ak_host.specs.Files.{Files, file_at}
 use Rattle.ak_host.specs.Moments.{HostState}
 use Rattle.ak_image.specs.Blocks.{seen_in, AreThere}
 use Rattle.ak_image.specs.Laid.{IsLaid}
+use Rattle.ak_image.specs.Named.{IsDamagedBy}
 use Rattle.ak_image.specs.Planted.{ArePlanted}
 use Rattle.ak_levels.specs.Pending.{Lists}
 use Rattle.ak_meta.specs.Contents.{Content, names_of}
 use Rattle.ak_repair.proofs.OnlyReading.{left_before}
+use Rattle.ak_node.proofs.Blaming.{blamed}
 use Rattle.ak_node.specs.Calls.{HasStops, StopsBy}
 use Rattle.ak_repair.specs.Damage.{IsDamagedLeaf}
 use Rattle.ak_repair.specs.Reads.{OnlyReads, IsReadStop}
 use Rattle.ak_node.specs.Standing.{IsReady, Holds}
 use Rattle.ak_node.specs.declared.keeper.Keeper.{Keeper}
-use Rattle.ak_tree.proofs.Becoming.{becomes_same}
 use Rattle.ak_tree.specs.Standing.{Trees, IsReady as IsForestReady, Holds as ForestHolds}
 use Rattle.ak_tree.specs.Stops.{OnWorn}
 use Rattle.ak_tree.specs.Storing.{IsLeftOf, IsStored}
-use Rattle.ak_volumes.specs.Ordinals.{Ordinals}
+use Rattle.ak_volumes.specs.Ordinals.{Ordinals, AreOrdinals}
 use Rattle.ak_world.specs.Leaves.{Leaf}
 use Rattle.ak_world.specs.Views.{View}
 use Rattle.ak_world.specs.Worlds.{World as Store}
@@ -86,26 +87,27 @@ holds_still content before after old new forest reads is holds = subst (λ (f : 
 
 -- ---- Stops
 
-stops_by : {T : Type 0} (told : Type 0) (c : Content) (old new : HostState) (result : Result T Stop) → OnlyReads told old new
-    → IfErr result (IsReadStop (λ file block. told → IsDamagedLeaf c file block old.files) old new) → StopsBy told c c old new result
-stops_by told c old new (Ok v) reads is = tt
-stops_by told c old new (Err Memory) reads is = tt
-stops_by told c old new (Err Disk) reads is = is
-stops_by told c old new (Err (Damaged file block)) reads is = λ tells. (becomes_same c, subst (λ (files : Files). IsDamagedLeaf c file block files) (sym (reads.files tells)) (is tells))
-stops_by told c old new (Err (Worn ordinal fill number)) reads is = absurd is
-stops_by told c old new (Err Port) reads is = absurd is
-stops_by told c old new (Err Usage) reads is = absurd is
-stops_by told c old new (Err Budget) reads is = absurd is
-stops_by told c old new (Err NoStore) reads is = absurd is
-stops_by told c old new (Err Exists) reads is = absurd is
+stops_by : {T : Type 0} (told : Type 0) (c : Content) (old new : HostState) (result : Result T Stop) → AreOrdinals c.ordinals → OnlyReads told old new
+    → IfErr result (IsReadStop (λ file block. told → IsDamagedLeaf c file block old.files) old new) → StopsBy told c old new result
+stops_by told c old new (Ok v) are reads is = tt
+stops_by told c old new (Err Memory) are reads is = tt
+stops_by told c old new (Err Disk) are reads is = is
+stops_by told c old new (Err (Damaged file block)) are reads is =
+    λ tells found was. subst (λ (files : Files). IsDamagedBy found file block files) (sym (reads.files tells)) (blamed found c file block old.files are was (is tells))
+stops_by told c old new (Err (Worn ordinal fill number)) are reads is = absurd is
+stops_by told c old new (Err Port) are reads is = absurd is
+stops_by told c old new (Err Usage) are reads is = absurd is
+stops_by told c old new (Err Budget) are reads is = absurd is
+stops_by told c old new (Err NoStore) are reads is = absurd is
+stops_by told c old new (Err Exists) are reads is = absurd is
 
-pub has_stops : {T : Type 0} (told : Type 0) (c : Content) (old new : HostState) (result : Result T Stop) → OnlyReads told old new
-    → IfErr result (IsReadStop (λ file block. told → IsDamagedLeaf c file block old.files) old new) → HasStops told c c old new result
-has_stops told c old new result reads is = record {
+pub has_stops : {T : Type 0} (told : Type 0) (c : Content) (old new : HostState) (result : Result T Stop) → AreOrdinals c.ordinals → OnlyReads told old new
+    → IfErr result (IsReadStop (λ file block. told → IsDamagedLeaf c file block old.files) old new) → HasStops told c old new result
+has_stops told c old new result are reads is = record {
   disk_later = reads.later;
   port_later = omega (arith, reads.port_faults);
   sizes = reads.sizes;
-  stops = stops_by told c old new result reads is;
+  stops = stops_by told c old new result are reads is;
 }
 
 pub not_worn : {T : Type 0} (P : ℕ → ℕ → Type 0) (old new : HostState) (result : Result T Stop) → IfErr result (IsReadStop P old new) → OnWorn result (λ stop. ⊥)

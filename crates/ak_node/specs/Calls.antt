@@ -5,34 +5,35 @@ use Rattle.ak_base.specs.declared.stop.Stop.TheVariants.{Usage, Damaged, Disk, P
 use Rattle.ak_host.specs.Causes.{Rose}
 use Rattle.ak_host.specs.Marks.{Mark, Telling, told_to}
 use Rattle.ak_host.specs.Moments.{HostState, mark_now}
+use Rattle.ak_image.specs.Blocks.{seen_in}
+use Rattle.ak_image.specs.Named.{IsDamagedBy}
 use Rattle.ak_meta.specs.Contents.{Content}
-use Rattle.ak_repair.specs.Damage.{IsDamagedLeaf}
 use Rattle.ak_tree.specs.Later.{Becomes}
 
--- A node whose record was this, and is that now, stops for want of memory, where a call of the disk or of the ports failed and
--- their count of faults rose, where the record has become one by which a live block doesn't spell the leaf that is named to
--- stand there, or since the store is worn.
-abbrev pub IsNodeStop : Type 0 → Content → Content → HostState → HostState → Stop → Type 0
-IsNodeStop told was now old new Memory = Unit {0}
-IsNodeStop told was now old new Disk = Rose old.disk_faults new.disk_faults
-IsNodeStop told was now old new Port = Rose old.port_faults new.port_faults
-IsNodeStop told was now old new (Damaged file block) = told → Becomes was now × IsDamagedLeaf now file block new.files
-IsNodeStop told was now old new (Worn ordinal fill number) = Unit {0}
-IsNodeStop told was now old new Usage = ⊥
-IsNodeStop told was now old new Budget = ⊥
-IsNodeStop told was now old new NoStore = ⊥
-IsNodeStop told was now old new Exists = ⊥
+-- A node whose record was this stops for want of memory, where a call of the disk or of the ports failed and their count of
+-- faults rose, where a block is damaged by each record that had become this one, or since the store is worn.
+abbrev pub IsNodeStop : Type 0 → Content → HostState → HostState → Stop → Type 0
+IsNodeStop told was old new Memory = Unit {0}
+IsNodeStop told was old new Disk = Rose old.disk_faults new.disk_faults
+IsNodeStop told was old new Port = Rose old.port_faults new.port_faults
+IsNodeStop told was old new (Damaged file block) = told → (found : Content) → Becomes (seen_in was.ordinals.volumes old.files) found was
+    → IsDamagedBy found file block new.files
+IsNodeStop told was old new (Worn ordinal fill number) = Unit {0}
+IsNodeStop told was old new Usage = ⊥
+IsNodeStop told was old new Budget = ⊥
+IsNodeStop told was old new NoStore = ⊥
+IsNodeStop told was old new Exists = ⊥
 
-abbrev pub StopsBy : {T : Type 0} → Type 0 → Content → Content → HostState → HostState → Result T Stop → Type 0
-StopsBy told was now old new (Ok v) = Unit {0}
-StopsBy told was now old new (Err s) = IsNodeStop told was now old new s
+abbrev pub StopsBy : {T : Type 0} → Type 0 → Content → HostState → HostState → Result T Stop → Type 0
+StopsBy told was old new (Ok v) = Unit {0}
+StopsBy told was old new (Err s) = IsNodeStop told was old new s
 
 -- The counts of faults have not fallen, the sizes of the files are as they were, and a stop has its cause.
-pub record HasStops {T : Type 0} (told : Type 0) (was now : Content) (old new : HostState) (result : Result T Stop) : Type 0 where
+pub record HasStops {T : Type 0} (told : Type 0) (was : Content) (old new : HostState) (result : Result T Stop) : Type 0 where
   pub disk_later : old.disk_faults ≤ new.disk_faults
   pub port_later : old.port_faults ≤ new.port_faults
   pub sizes : new.sizes ≡ old.sizes
-  pub stops : StopsBy told was now old new result
+  pub stops : StopsBy told was old new result
 
 -- no block is damaged, nor is the store worn
 abbrev pub IsOutside : Stop → Type 0

@@ -8,13 +8,14 @@ use Rattle.ak_gate.specs.Slots.{newest}
 use Rattle.ak_host.specs.Causes.{Rose}
 use Rattle.ak_host.specs.Files.{Files, file_at}
 use Rattle.ak_host.specs.Moments.{HostState}
+use Rattle.ak_image.specs.Blocks.{seen_in}
 use Rattle.ak_image.specs.Images.{IsSound, StandsFor}
+use Rattle.ak_image.specs.Named.{IsDamagedNode}
 use Rattle.ak_levels.specs.Pending.{Lists}
 use Rattle.ak_meta.specs.Contents.{Content, IsMeta, names_of}
 use Rattle.ak_node.specs.declared.keeper.Keeper.{Keeper}
 use Rattle.ak_record.specs.Records.{frame_for}
 use Rattle.ak_record.specs.Stops.{IsNoStore, IsDamaged}
-use Rattle.ak_repair.specs.Damage.{IsDamagedNode}
 use Rattle.ak_tree.specs.Standing.{Keeps}
 use Rattle.ak_world.specs.Valid.{AreOpenable}
 use Rattle.ak_world.specs.Views.{View, first_view}
@@ -30,9 +31,9 @@ pub record IsFoundRecord (number : ℕ) (c : Content) (disk : Files) : Type 0 wh
   pub blocks : length (file_at disk 0) ≡ 2 + 2 * c.limits.slot
   pub newest_is : newest c.limits.slot disk ≡ Some (frame_for number c)
 
--- a live block doesn't spell the node that is named to stand there, by the record that was found
+-- a live block doesn't spell the node that the record which was found names there
 abbrev pub IsDamagedByFound : HostState → HostState → ℕ → ℕ → Type 0
-IsDamagedByFound old new file block = (number : ℕ) × (found : Content) × IsFoundRecord number found old.files × IsDamagedNode found file block new.files
+IsDamagedByFound old new file block = (number : ℕ) × (found : Content) × IsFoundRecord number found old.files × IsDamagedNode (seen_in found.ordinals.volumes new.files) found.ordinals found file block
 
 -- Why the newest view can't be opened: there is no store; an open gate has no record behind it, the file of a volume is
 -- missing or short, or a node is damaged; a call of the disk failed; there is no memory.

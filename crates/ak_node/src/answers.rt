@@ -12,7 +12,7 @@ ghost use Rattle.ak_node.specs.Calls.{HasStops, IsSilent, IsSoundStop, IsOutside
 ghost use Rattle.ak_node.specs.Pieces.{InAnswer, LeavesInAnswer};
 ghost use Rattle.ak_node.specs.Queries.{IsNoRows};
 ghost use Rattle.ak_node.specs.Standing.{IsReady, Holds};
-ghost use Rattle.ak_tree.specs.Later.{Becomes};
+ghost use Rattle.ak_tree.specs.Later.{KeepsOrigins};
 ghost use Rattle.ak_tree.specs.Stops.{OnWorn, IsWornBy};
 ghost use Rattle.ak_world.specs.Worlds.{World as Store};
 
@@ -26,7 +26,7 @@ use std::alloc::Global;
 
 /// Tells a port these bytes, where there are any.
 fn tell<H: Host>(host: &mut H, port: u32, bytes: &[u8]) -> Result<(), Stop>
-    ensures stops { (was now : Content) → HasStops H.tells was now (H.state host.old) (H.state host.new) result }
+    ensures stops { (was : Content) → HasStops H.tells was (H.state host.old) (H.state host.new) result }
     ensures silent { H.tells → 1 ≤ port → IsSilent (H.state host.old) (H.state host.new) }
     ensures stop { IfErr result (λ stop. stop ≡ Stop.Port) }
     ensures told { H.tells → OnOk result (Told (mark_now (H.state host.old)) (mark_now (H.state host.new)) port bytes.now) }
@@ -46,7 +46,7 @@ fn tell<H: Host>(host: &mut H, port: u32, bytes: &[u8]) -> Result<(), Stop>
 
 /// Tells a port that it is refused by this.
 pub fn refuse<H: Host>(alloc: Global, host: &mut H, port: u32, refusal: Refusal) -> Result<(), Stop>
-    ensures stops { (was now : Content) → HasStops H.tells was now (H.state host.old) (H.state host.new) result }
+    ensures stops { (was : Content) → HasStops H.tells was (H.state host.old) (H.state host.new) result }
     ensures silent { H.tells → 1 ≤ port → IsSilent (H.state host.old) (H.state host.new) }
     ensures stop { IfErr result IsOutside }
     ensures told { H.tells → OnOk result (Told (mark_now (H.state host.old)) (mark_now (H.state host.new)) port (refusal_reply refusal)) }
@@ -75,8 +75,8 @@ fn points<H: Host>(
     requires ready { IsReady H.tells keeper.old (H.state host.old) }
     requires alike { length values.now ≡ length names.now }
     requires canonical { AllByRecursion IsCanonical names.now }
-    ensures stops { HasStops H.tells keeper.old.forest.meta keeper.new.forest.meta (H.state host.old) (H.state host.new) result }
-    ensures becomes { OnOk result (Becomes keeper.old.forest.meta keeper.new.forest.meta) }
+    ensures stops { HasStops H.tells keeper.old.forest.meta (H.state host.old) (H.state host.new) result }
+    ensures becomes { H.tells → OnOk result (KeepsOrigins (H.state host.old) (H.state host.new) keeper.old.forest.meta keeper.new.forest.meta) }
     ensures silent { H.tells → 1 ≤ port → IsSilent (H.state host.old) (H.state host.new) }
     ensures sound { IfErr result IsSoundStop }
     ensures ready { OnOk result (IsReady H.tells keeper.new (H.state host.new)) }
@@ -106,8 +106,8 @@ fn rows<H: Host>(
     metric: &[u8],
 ) -> Result<(), Stop>
     requires ready { IsReady H.tells keeper.old (H.state host.old) }
-    ensures stops { HasStops H.tells keeper.old.forest.meta keeper.new.forest.meta (H.state host.old) (H.state host.new) result }
-    ensures becomes { OnOk result (Becomes keeper.old.forest.meta keeper.new.forest.meta) }
+    ensures stops { HasStops H.tells keeper.old.forest.meta (H.state host.old) (H.state host.new) result }
+    ensures becomes { H.tells → OnOk result (KeepsOrigins (H.state host.old) (H.state host.new) keeper.old.forest.meta keeper.new.forest.meta) }
     ensures silent { H.tells → 1 ≤ port → IsSilent (H.state host.old) (H.state host.new) }
     ensures not_worn { OnWorn result (λ stop. ⊥) }
     ensures sound { H.tells → (content : Store) → Holds content keeper.old (H.state host.old) → IfErr result IsSoundStop }
@@ -132,8 +132,8 @@ fn rows<H: Host>(
 /// Closes all open leaves, takes a view, and confirms it.
 fn flush<H: Host>(alloc: Global, host: &mut H, keeper: &mut Keeper, port: u32) -> Result<(), Stop>
     requires ready { IsReady H.tells keeper.old (H.state host.old) }
-    ensures stops { HasStops H.tells keeper.old.forest.meta keeper.new.forest.meta (H.state host.old) (H.state host.new) result }
-    ensures becomes { OnOk result (Becomes keeper.old.forest.meta keeper.new.forest.meta) }
+    ensures stops { HasStops H.tells keeper.old.forest.meta (H.state host.old) (H.state host.new) result }
+    ensures becomes { H.tells → OnOk result (KeepsOrigins (H.state host.old) (H.state host.new) keeper.old.forest.meta keeper.new.forest.meta) }
     ensures silent { H.tells → 1 ≤ port → IsSilent (H.state host.old) (H.state host.new) }
     ensures sound { IfErr result IsSoundStop }
     ensures reads { H.tells → (H.state host.new).reads ≡ (H.state host.old).reads }
@@ -161,8 +161,8 @@ pub fn answer<H: Host>(
 ) -> Result<(), Stop>
     requires ready { IsReady H.tells keeper.old (H.state host.old) }
     requires allowed { IsAllowed asked }
-    ensures stops { HasStops H.tells keeper.old.forest.meta keeper.new.forest.meta (H.state host.old) (H.state host.new) result }
-    ensures becomes { OnOk result (Becomes keeper.old.forest.meta keeper.new.forest.meta) }
+    ensures stops { HasStops H.tells keeper.old.forest.meta (H.state host.old) (H.state host.new) result }
+    ensures becomes { H.tells → OnOk result (KeepsOrigins (H.state host.old) (H.state host.new) keeper.old.forest.meta keeper.new.forest.meta) }
     ensures silent { H.tells → 1 ≤ port → IsSilent (H.state host.old) (H.state host.new) }
     ensures sound { H.tells → (content : Store) → Holds content keeper.old (H.state host.old) → IfErr result IsSoundStop }
     ensures reads { H.tells → IsNoRows asked → (H.state host.new).reads ≡ (H.state host.old).reads }

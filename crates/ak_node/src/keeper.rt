@@ -3,7 +3,7 @@ ghost use Rattle.std.specs.Prelude.{◌≡◌, OnOk, IfErr};
 ghost use Rattle.ak_host.specs.Moments.{DiskPasses};
 ghost use Rattle.ak_node.specs.Calls.{HasStops, IsSoundStop};
 ghost use Rattle.ak_node.specs.Standing.{IsReady, Holds};
-ghost use Rattle.ak_tree.specs.Later.{Becomes};
+ghost use Rattle.ak_tree.specs.Later.{KeepsOrigins};
 ghost use Rattle.ak_tree.specs.Stops.{OnWorn, IsWornBy};
 ghost use Rattle.ak_tree.specs.Storing.{LeavesView};
 ghost use Rattle.ak_world.specs.Steps.{flushed};
@@ -30,8 +30,8 @@ impl Keeper {
     /// Closes all open leaves by rising number of their series, and takes a view.
     pub fn flush<D: Disk>(&mut self, alloc: Global, disk: &mut D) -> Result<(), Stop>
         requires ready { IsReady D.tells self.old (D.state disk.old) }
-        ensures stops { HasStops D.tells self.old.forest.meta self.new.forest.meta (D.state disk.old) (D.state disk.new) result }
-        ensures becomes { OnOk result (Becomes self.old.forest.meta self.new.forest.meta) }
+        ensures stops { HasStops D.tells self.old.forest.meta (D.state disk.old) (D.state disk.new) result }
+        ensures becomes { D.tells → OnOk result (KeepsOrigins (D.state disk.old) (D.state disk.new) self.old.forest.meta self.new.forest.meta) }
         ensures sound { IfErr result IsSoundStop }
         ensures ready { OnOk result (IsReady D.tells self.new (D.state disk.new)) }
         ensures worn { D.tells → (content : Store) → Holds content self.old (D.state disk.old) → OnWorn result (IsWornBy (flushed content)) }

@@ -10,7 +10,7 @@ ghost use Rattle.ak_meta.specs.Contents.{Content};
 ghost use Rattle.ak_node.specs.Calls.{HasStops, IsSilent, IsSoundStop, IsOutside};
 ghost use Rattle.ak_node.specs.Queries.{HasNoQueries, OnTurn};
 ghost use Rattle.ak_node.specs.Standing.{CanServe, Stands, HasRead, AreSessions, place_of, InAct, LeavesInAct, AfterAct, Wears, InEnd, AfterEnd, InEnds, AfterEnds, InTurn, LeavesInTurn, LeavesLast, AfterTaken, AfterTurn, WearsIn, went_after};
-ghost use Rattle.ak_tree.specs.Later.{Becomes};
+ghost use Rattle.ak_tree.specs.Later.{KeepsOrigins};
 ghost use Rattle.ak_tree.specs.Stops.{OnWorn};
 
 use crate::answers::refuse;
@@ -76,7 +76,7 @@ fn open_session(
 
 /// Tells the end of a session, where it is inside a message.
 fn tell_end<H: Host>(alloc: Global, host: &mut H, session: &Session) -> Result<(), Stop>
-    ensures stops { (was now : Content) → HasStops H.tells was now (H.state host.old) (H.state host.new) result }
+    ensures stops { (was : Content) → HasStops H.tells was (H.state host.old) (H.state host.new) result }
     ensures silent { H.tells → 1 ≤ session.now.port → IsSilent (H.state host.old) (H.state host.new) }
     ensures stop { IfErr result IsOutside }
     ensures reads { H.tells → (H.state host.new).reads ≡ (H.state host.old).reads }
@@ -97,7 +97,7 @@ fn tell_end<H: Host>(alloc: Global, host: &mut H, session: &Session) -> Result<(
 /// Tells the ends of these sessions, in order.
 fn tell_ends<H: Host>(alloc: Global, host: &mut H, sessions: &[Session]) -> Result<(), Stop>
     requires { AllByRecursion (λ s. 1 ≤ s.port) sessions.now }
-    ensures stops { (was now : Content) → HasStops H.tells was now (H.state host.old) (H.state host.new) result }
+    ensures stops { (was : Content) → HasStops H.tells was (H.state host.old) (H.state host.new) result }
     ensures silent { H.tells → IsSilent (H.state host.old) (H.state host.new) }
     ensures stop { IfErr result IsOutside }
     ensures reads { H.tells → (H.state host.new).reads ≡ (H.state host.old).reads }
@@ -136,8 +136,8 @@ impl Node {
         requires port { 1 ≤ port }
         requires ready { CanServe H.tells self.old (H.state host.old) }
         ensures stop { self.new.stop ≡ self.old.stop }
-        ensures stops { HasStops H.tells self.old.keeper.forest.meta self.new.keeper.forest.meta (H.state host.old) (H.state host.new) result }
-        ensures becomes { OnOk result (Becomes self.old.keeper.forest.meta self.new.keeper.forest.meta) }
+        ensures stops { HasStops H.tells self.old.keeper.forest.meta (H.state host.old) (H.state host.new) result }
+        ensures becomes { H.tells → OnOk result (KeepsOrigins (H.state host.old) (H.state host.new) self.old.keeper.forest.meta self.new.keeper.forest.meta) }
         ensures silent { H.tells → IsSilent (H.state host.old) (H.state host.new) }
         ensures sound { H.tells → (world : World) → Stands self.old world (H.state host.old) → IfErr result IsSoundStop }
         ensures reads { H.tells → (world : World) → Stands self.old world (H.state host.old) → HasNoQueries world (piece port bytes.now)
@@ -162,10 +162,11 @@ impl Node {
         requires ready { CanServe H.tells self.old (H.state host.old) }
         ensures stop { self.new.stop ≡ self.old.stop }
         ensures keeper { self.new.keeper ≡ self.old.keeper }
-        ensures stops { (was now : Content) → HasStops H.tells was now (H.state host.old) (H.state host.new) result }
+        ensures stops { (was : Content) → HasStops H.tells was (H.state host.old) (H.state host.new) result }
         ensures silent { H.tells → IsSilent (H.state host.old) (H.state host.new) }
         ensures outside { IfErr result IsOutside }
         ensures reads { H.tells → (H.state host.new).reads ≡ (H.state host.old).reads }
+        ensures files { H.tells → (H.state host.new).files ≡ (H.state host.old).files }
         ensures ready { OnOk result (CanServe H.tells self.new (H.state host.new)) }
         ensures after { H.tells → (world : World) → Stands self.old world (H.state host.old)
             → OnOk result (AfterAct world (ended port) (mark_now (H.state host.old)) (mark_now (H.state host.new)) self.new (H.state host.new)) }
@@ -185,8 +186,8 @@ impl Node {
     fn finish_all<H: Host>(&mut self, alloc: Global, host: &mut H) -> Result<(), Stop>
         requires ready { CanServe H.tells self.old (H.state host.old) }
         ensures stop { self.new.stop ≡ self.old.stop }
-        ensures stops { HasStops H.tells self.old.keeper.forest.meta self.new.keeper.forest.meta (H.state host.old) (H.state host.new) result }
-        ensures becomes { OnOk result (Becomes self.old.keeper.forest.meta self.new.keeper.forest.meta) }
+        ensures stops { HasStops H.tells self.old.keeper.forest.meta (H.state host.old) (H.state host.new) result }
+        ensures becomes { H.tells → OnOk result (KeepsOrigins (H.state host.old) (H.state host.new) self.old.keeper.forest.meta self.new.keeper.forest.meta) }
         ensures silent { H.tells → IsSilent (H.state host.old) (H.state host.new) }
         ensures sound { IfErr result IsSoundStop }
         ensures reads { H.tells → (H.state host.new).reads ≡ (H.state host.old).reads }
@@ -214,8 +215,8 @@ impl Node {
         requires turn { IsTurn turn }
         requires ready { CanServe H.tells self.old (H.state host.old) }
         ensures stop { self.new.stop ≡ self.old.stop }
-        ensures stops { HasStops H.tells self.old.keeper.forest.meta self.new.keeper.forest.meta (H.state host.old) (H.state host.new) result }
-        ensures becomes { OnOk result (Becomes self.old.keeper.forest.meta self.new.keeper.forest.meta) }
+        ensures stops { HasStops H.tells self.old.keeper.forest.meta (H.state host.old) (H.state host.new) result }
+        ensures becomes { H.tells → OnOk result (KeepsOrigins (H.state host.old) (H.state host.new) self.old.keeper.forest.meta self.new.keeper.forest.meta) }
         ensures silent { H.tells → IsSilent (H.state host.old) (H.state host.new) }
         ensures sound { H.tells → (world : World) → Stands self.old world (H.state host.old) → IfErr result IsSoundStop }
         ensures reads { H.tells → (world : World) → Stands self.old world (H.state host.old) → HasNoQueries world (taken turn from.now)
@@ -257,8 +258,8 @@ impl Node {
         ensures kept { IfSome self.old.stop (λ stop. (result ≡ Err stop) × (self.new ≡ self.old) × (host.new ≡ host.old)) }
         ensures keeps { IfErr result (λ stop. self.new.stop ≡ Some stop) }
         ensures fresh { OnOk result (self.new.stop ≡ None) }
-        ensures stops { self.old.stop ≡ None → HasStops H.tells self.old.keeper.forest.meta self.new.keeper.forest.meta (H.state host.old) (H.state host.new) result }
-        ensures becomes { OnOk result (Becomes self.old.keeper.forest.meta self.new.keeper.forest.meta) }
+        ensures stops { self.old.stop ≡ None → HasStops H.tells self.old.keeper.forest.meta (H.state host.old) (H.state host.new) result }
+        ensures becomes { H.tells → OnOk result (KeepsOrigins (H.state host.old) (H.state host.new) self.old.keeper.forest.meta self.new.keeper.forest.meta) }
         ensures silent { H.tells → IsSilent (H.state host.old) (H.state host.new) }
         ensures went { IfOk result (λ went. went ≡ went_after turn) }
         ensures sound { H.tells → (world : World) → Stands self.old world (H.state host.old) → IfErr result IsSoundStop }
@@ -295,8 +296,8 @@ impl Node {
         ensures kept { IfSome self.old.stop (λ stop. (result ≡ Err stop) × (self.new ≡ self.old) × (host.new ≡ host.old)) }
         ensures keeps { IfErr result (λ stop. self.new.stop ≡ Some stop) }
         ensures fresh { OnOk result (self.new.stop ≡ None) }
-        ensures stops { self.old.stop ≡ None → HasStops H.tells self.old.keeper.forest.meta self.new.keeper.forest.meta (H.state host.old) (H.state host.new) result }
-        ensures becomes { OnOk result (Becomes self.old.keeper.forest.meta self.new.keeper.forest.meta) }
+        ensures stops { self.old.stop ≡ None → HasStops H.tells self.old.keeper.forest.meta (H.state host.old) (H.state host.new) result }
+        ensures becomes { H.tells → OnOk result (KeepsOrigins (H.state host.old) (H.state host.new) self.old.keeper.forest.meta self.new.keeper.forest.meta) }
         ensures silent { H.tells → IsSilent (H.state host.old) (H.state host.new) }
         ensures sound { H.tells → (world : World) → Stands self.old world (H.state host.old) → IfErr result IsSoundStop }
         // Puts and flushes read nothing.
@@ -336,8 +337,8 @@ impl Node {
         ensures kept { IfSome self.old.stop (λ stop. (result ≡ Err stop) × (self.new ≡ self.old) × (host.new ≡ host.old)) }
         ensures keeps { IfErr result (λ stop. self.new.stop ≡ Some stop) }
         ensures fresh { OnOk result (self.new.stop ≡ None) }
-        ensures stops { self.old.stop ≡ None → HasStops H.tells self.old.keeper.forest.meta self.new.keeper.forest.meta (H.state host.old) (H.state host.new) result }
-        ensures becomes { OnOk result (Becomes self.old.keeper.forest.meta self.new.keeper.forest.meta) }
+        ensures stops { self.old.stop ≡ None → HasStops H.tells self.old.keeper.forest.meta (H.state host.old) (H.state host.new) result }
+        ensures becomes { H.tells → OnOk result (KeepsOrigins (H.state host.old) (H.state host.new) self.old.keeper.forest.meta self.new.keeper.forest.meta) }
         ensures sound { self.old.stop ≡ None → IfErr result IsSoundStop }
         ensures silent { H.tells → IsSilent (H.state host.old) (H.state host.new) }
         ensures reads { H.tells → (H.state host.new).reads ≡ (H.state host.old).reads }

@@ -6,12 +6,12 @@ ghost use Rattle.ak_host.specs.Moments.{DiskPasses, LeavesNow};
 ghost use Rattle.ak_image.specs.Blocks.{seen_in, AreThere};
 ghost use Rattle.ak_image.specs.Images.{IsSound, StandsFor};
 ghost use Rattle.ak_image.specs.Laid.{IsLaid};
+ghost use Rattle.ak_image.specs.Named.{IsDamagedNode};
 ghost use Rattle.ak_image.specs.Planted.{AreAllLawful, ArePlanted};
 ghost use Rattle.ak_meta.specs.Contents.{IsMeta, names_of, size_of};
 ghost use Rattle.ak_node.specs.Opening.{IsFirst, IsFoundRecord, IsNodeOpenStop, KeepsOpened};
 ghost use Rattle.ak_node.specs.Standing.{CanServe, Stands};
 ghost use Rattle.ak_record.specs.Stops.{IsNoStore, IsTaken, IsMakeStop};
-ghost use Rattle.ak_repair.specs.Damage.{IsDamagedNode};
 ghost use Rattle.ak_repair.specs.Firsts.{firsts};
 ghost use Rattle.ak_repair.specs.Reads.{OnlyReads, IsReadStop};
 ghost use Rattle.ak_run.specs.Run.{world_of};
@@ -77,7 +77,7 @@ impl Waiting {
         requires there { AreThere meta.now.ordinals (D.state disk.old) }
         ensures reads { OnlyReads D.tells (D.state disk.old) (D.state disk.new) }
         ensures stops { IfErr result (IsReadStop
-            (λ file block. D.tells → IsDamagedNode meta.now file block (D.state disk.old).files)
+            (λ file block. D.tells → IsDamagedNode (seen_in meta.now.ordinals.volumes (D.state disk.old).files) meta.now.ordinals meta.now file block)
             (D.state disk.old) (D.state disk.new)) }
         ensures lawful { IfOk result (λ waiting. AreAllLawful meta.now.series waiting.levels) }
         ensures planted { D.tells → (kept : List (List Leaf)) → IsLaid (seen_in meta.now.limits.volumes (D.state disk.old).files) meta.now kept

@@ -9,7 +9,7 @@ ghost use Rattle.ak_meta.specs.Leaves.{with_series};
 ghost use Rattle.ak_node.specs.Calls.{HasStops, IsSoundStop};
 ghost use Rattle.ak_node.specs.Names.{late_known, with_all, levels_with, ArePlaces};
 ghost use Rattle.ak_node.specs.Standing.{IsReady, Holds};
-ghost use Rattle.ak_tree.specs.Later.{Becomes};
+ghost use Rattle.ak_tree.specs.Later.{KeepsOrigins};
 ghost use Rattle.ak_tree.specs.Standing.{Keeps, last_known};
 ghost use Rattle.ak_tree.specs.Stops.{OnWorn, IsWornBy};
 ghost use Rattle.ak_tree.specs.Storing.{LeavesView};
@@ -76,8 +76,8 @@ fn accept_all<D: Disk>(
     requires places { ArePlaces places.now names.now keeper.old.names }
     requires known { AllByRecursion (λ name. list_any (λ n. bytes_eq name n) keeper.old.names ≡ true) names.now }
     requires none_late { late_known keeper.old.forest keeper.old.names names.now time ≡ None }
-    ensures stops { HasStops D.tells keeper.old.forest.meta keeper.new.forest.meta (D.state disk.old) (D.state disk.new) result }
-    ensures becomes { OnOk result (Becomes keeper.old.forest.meta keeper.new.forest.meta) }
+    ensures stops { HasStops D.tells keeper.old.forest.meta (D.state disk.old) (D.state disk.new) result }
+    ensures becomes { D.tells → OnOk result (KeepsOrigins (D.state disk.old) (D.state disk.new) keeper.old.forest.meta keeper.new.forest.meta) }
     ensures sound { IfErr result IsSoundStop }
     ensures ready { OnOk result (IsReady D.tells keeper.new (D.state disk.new)) }
     ensures worn { D.tells → (content : Store) → Holds content keeper.old (D.state disk.old)
@@ -114,8 +114,8 @@ pub fn put<D: Disk>(
     requires ready { IsReady D.tells keeper.old (D.state disk.old) }
     requires alike { length values.now ≡ length names.now }
     requires canonical { AllByRecursion IsCanonical names.now }
-    ensures stops { HasStops D.tells keeper.old.forest.meta keeper.new.forest.meta (D.state disk.old) (D.state disk.new) result }
-    ensures becomes { OnOk result (Becomes keeper.old.forest.meta keeper.new.forest.meta) }
+    ensures stops { HasStops D.tells keeper.old.forest.meta (D.state disk.old) (D.state disk.new) result }
+    ensures becomes { D.tells → OnOk result (KeepsOrigins (D.state disk.old) (D.state disk.new) keeper.old.forest.meta keeper.new.forest.meta) }
     ensures sound { IfErr result IsSoundStop }
     ensures ready { OnOk result (IsReady D.tells keeper.new (D.state disk.new)) }
     ensures refusal { (content : Store) → Keeps content keeper.old.forest → IfOk result (λ refusal. refusal ≡ refusal_of content names.now time) }

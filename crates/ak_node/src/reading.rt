@@ -9,7 +9,7 @@ ghost use Rattle.ak_node.specs.Calls.{HasStops, IsSilent, IsSoundStop, Told};
 ghost use Rattle.ak_node.specs.Pieces.{InAnswer, LeavesInAnswer, Begun, ReadsOn, InPiece, LeavesInPiece, AfterPiece, WearsPiece};
 ghost use Rattle.ak_node.specs.Queries.{IsNoQuery, AreNoQueries};
 ghost use Rattle.ak_node.specs.Standing.{IsReady, Holds};
-ghost use Rattle.ak_tree.specs.Later.{Becomes};
+ghost use Rattle.ak_tree.specs.Later.{KeepsOrigins};
 ghost use Rattle.ak_tree.specs.Stops.{OnWorn, IsWornBy};
 ghost use Rattle.ak_world.specs.Worlds.{World as Store, limits_of};
 
@@ -31,8 +31,8 @@ fn act<H: Host>(
     message: &Message,
 ) -> Result<(), Stop>
     requires ready { IsReady H.tells keeper.old (H.state host.old) }
-    ensures stops { HasStops H.tells keeper.old.forest.meta keeper.new.forest.meta (H.state host.old) (H.state host.new) result }
-    ensures becomes { OnOk result (Becomes keeper.old.forest.meta keeper.new.forest.meta) }
+    ensures stops { HasStops H.tells keeper.old.forest.meta (H.state host.old) (H.state host.new) result }
+    ensures becomes { H.tells → OnOk result (KeepsOrigins (H.state host.old) (H.state host.new) keeper.old.forest.meta keeper.new.forest.meta) }
     ensures silent { H.tells → 1 ≤ port → IsSilent (H.state host.old) (H.state host.new) }
     ensures sound { H.tells → (content : Store) → Holds content keeper.old (H.state host.old) → IfErr result IsSoundStop }
     ensures reads { H.tells → IsNoQuery message.now → (H.state host.new).reads ≡ (H.state host.old).reads }
@@ -68,8 +68,8 @@ fn advance<H: Host>(
     ensures port { session.new.port ≡ session.old.port }
     ensures within { at.new ≤ length piece.now }
     ensures moves { IfOk result (λ more. IsTrue more → at.old < at.new) }
-    ensures stops { HasStops H.tells keeper.old.forest.meta keeper.new.forest.meta (H.state host.old) (H.state host.new) result }
-    ensures becomes { OnOk result (Becomes keeper.old.forest.meta keeper.new.forest.meta) }
+    ensures stops { HasStops H.tells keeper.old.forest.meta (H.state host.old) (H.state host.new) result }
+    ensures becomes { H.tells → OnOk result (KeepsOrigins (H.state host.old) (H.state host.new) keeper.old.forest.meta keeper.new.forest.meta) }
     ensures silent { H.tells → IsSilent (H.state host.old) (H.state host.new) }
     ensures sound { H.tells → (begun : Begun) → ReadsOn begun keeper.old session.old (begun.stream ++ take at.old piece.now) (mark_now (H.state host.old)) (H.state host.old) → IfErr result IsSoundStop }
     ensures reads { H.tells → (begun : Begun) → ReadsOn begun keeper.old session.old (begun.stream ++ take at.old piece.now) (mark_now (H.state host.old)) (H.state host.old)
@@ -113,8 +113,8 @@ pub fn read<H: Host>(
     requires ready { IsReady H.tells keeper.old (H.state host.old) }
     requires port { 1 ≤ session.old.port }
     ensures port { session.new.port ≡ session.old.port }
-    ensures stops { HasStops H.tells keeper.old.forest.meta keeper.new.forest.meta (H.state host.old) (H.state host.new) result }
-    ensures becomes { OnOk result (Becomes keeper.old.forest.meta keeper.new.forest.meta) }
+    ensures stops { HasStops H.tells keeper.old.forest.meta (H.state host.old) (H.state host.new) result }
+    ensures becomes { H.tells → OnOk result (KeepsOrigins (H.state host.old) (H.state host.new) keeper.old.forest.meta keeper.new.forest.meta) }
     ensures silent { H.tells → IsSilent (H.state host.old) (H.state host.new) }
     ensures sound { H.tells → (begun : Begun) → ReadsOn begun keeper.old session.old begun.stream (mark_now (H.state host.old)) (H.state host.old) → IfErr result IsSoundStop }
     ensures reads { H.tells → (begun : Begun) → ReadsOn begun keeper.old session.old begun.stream (mark_now (H.state host.old)) (H.state host.old)

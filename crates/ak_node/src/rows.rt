@@ -191,7 +191,7 @@ pub fn write_metric<D: Disk>(
     requires ready { IsReady D.tells keeper.old (D.state disk.old) }
     ensures forest { keeper.new.forest ≡ keeper.old.forest }
     ensures names { keeper.new.names ≡ keeper.old.names }
-    ensures stops { HasStops D.tells keeper.old.forest.meta keeper.old.forest.meta (D.state disk.old) (D.state disk.new) result }
+    ensures stops { HasStops D.tells keeper.old.forest.meta (D.state disk.old) (D.state disk.new) result }
     ensures not_worn { OnWorn result (λ stop. ⊥) }
     ensures sound { D.tells → (content : Store) → Holds content keeper.old (D.state disk.old) → IfErr result IsSoundStop }
     ensures ready { IsReady D.tells keeper.new (D.state disk.new) }
@@ -202,6 +202,8 @@ pub fn write_metric<D: Disk>(
     ensures leaves { D.tells → (left : Files) → LeavesNow (D.state disk.new) left → LeavesNow (D.state disk.old) left }
     ensures moments { D.tells → DiskPasses (LeavesNow (D.state disk.old)) (D.state disk.old) (D.state disk.new) }
 {
+    // The forest's record is lawful, so its ordinals tell where a block stands that can't be read.
+    keeper.forest.room();
     for series in 0..keeper.forest.count() {
         write_of(alloc, disk, keeper, series, metric, text)?;
     }

@@ -2,8 +2,9 @@
 use Rattle.std.proofs.Common.{◌≡◌, inl, inr, ℕ, zero, suc, ◌-◌, ◌≤◌, List, [], ◌∷◌, ◌++◌, subst, arith}
 use Rattle.ak_host.specs.Files.{Files}
 use Rattle.ak_image.specs.Blocks.{Seen}
+use Rattle.ak_image.specs.Named.{IsNoNode}
 use Rattle.ak_inner.specs.declared.reference.Ref.{Ref}
-use Rattle.ak_repair.specs.Follows.{AreFollowed, IsReferred, IsNoNode, IsLost}
+use Rattle.ak_repair.specs.Follows.{AreFollowed, IsReferred, IsLost}
 use Rattle.ak_volumes.specs.Ordinals.{Ordinals, IsLive, ordinal_of, index_of, file_of}
 
 -- what is said of the same ordinals and files

@@ -24,8 +24,9 @@ none_of (suc n) (suc k) = none_of n k
 pub none_waits : (v : Lists) (k : ℕ) → v.pending ≡ no_lists.pending → pending_at v k ≡ []
 none_waits v k none = ap (λ (ps : List (List Ref)). get_or ps k []) none ∙ none_of 11 k
 
-pub none_lawful : (v : Lists) (leaves : ℕ) → v.pending ≡ no_lists.pending → ((k : ℕ) → k ≤ 10 → 32 ^ k ≤ leaves → get_or v.placed k false ≡ true) → AreLawful leaves v
-none_lawful v leaves none placed = record {
+pub none_lawful : (v : Lists) (leaves : ℕ) → leaves ≤ 2 ^ 52 → v.pending ≡ no_lists.pending → ((k : ℕ) → k ≤ 10 → 32 ^ k ≤ leaves → get_or v.placed k false ≡ true) → AreLawful leaves v
+none_lawful v leaves most none placed = record {
+  most = most;
   few = λ k h. omega (arith, ap (length {A = Ref}) (none_waits v k none));
   each = λ k h. subst (AllByRecursion (IsTally k)) (sym (none_waits v k none)) tt;
   placed = placed;
@@ -57,6 +58,7 @@ pub record IsAdded (level : ℕ) (v w : Lists) : Type 0 where
 pub lawful_added : (leaves level left : ℕ) (v w : Lists) → IsAdded level v w → left ≡ pending_of leaves level → length (pending_at w level) ≤ left → AllByRecursion (IsTally level) (pending_at w level)
     → AreLawful leaves v → AreLawful leaves w
 lawful_added leaves level left v w added is few tallies lawful = record {
+  most = lawful.most;
   few = λ k h. elim (cases_lt k level) [
     | inl less ↦ subst (λ (rs : List Ref). length rs ≤ leaves / 32 ^ k % 32) (sym (added.others k (omega (arith, less)))) (lawful.few k h)
     | inr more ↦ elim (cases_lt level k) [

@@ -1,29 +1,29 @@
 -- What waits of all series, one behind another.
-use Rattle.std.proofs.Common.{◌≡◌, ◌⊎◌, inl, inr, ◌∙◌, ℕ, zero, suc, ◌+◌, ◌-◌, ◌^◌, ◌<◌, ◌≤◌, Result, Ok, Err, List, [], ◌∷◌, ◌++◌, length, drop, get_or, refl, sym, ap, subst, arith, append_assoc, append-nil}
+use Rattle.std.proofs.Common.{◌≡◌, ◌⊎◌, inl, inr, ◌∙◌, ℕ, zero, suc, ◌+◌, ◌-◌, ◌/◌, ◌^◌, ◌<◌, ◌≤◌, Result, Ok, Err, List, [], ◌∷◌, ◌++◌, length, drop, get_or, refl, sym, ap, subst, arith, append_assoc, append-nil}
 use Rattle.std.proofs.Math.Seq.{drop-cons}
-use Rattle.std.proofs.lemmas.Bool.{cases_lt}
 use Rattle.std.specs.Result.{IfErr}
 use Rattle.ak_base.specs.declared.stop.Stop.{Stop}
 use Rattle.ak_base.specs.declared.stop.Stop.TheVariants.{Usage, Damaged, Disk, Port, Memory, Budget, Worn, NoStore, Exists}
-use Rattle.ak_forest.proofs.Arith.{fan_pos, made_none}
-use Rattle.ak_forest.specs.Numbers.{made}
+use Rattle.ak_forest.proofs.Arith.{made_split}
 use Rattle.ak_host.specs.Files.{Files}
 use Rattle.ak_host.specs.Moments.{HostState}
 use Rattle.ak_image.specs.Blocks.{Seen, seen_in}
 use Rattle.ak_image.specs.Chains.{IsChain}
-use Rattle.ak_image.proofs.Rescuing.{chain_in}
-use Rattle.ak_image.specs.Laid.{IsLaid, AreLaid, kept_in, series_in}
+use Rattle.ak_image.proofs.Rescuing.{leaves_in}
+use Rattle.ak_image.specs.Laid.{IsLaid, AreLaid, series_in}
+use Rattle.ak_image.specs.Named.{IsNamed, rescue, elder, IsNodeOf, IsDamagedNode}
 use Rattle.ak_image.specs.Planted.{IsPlanted, ArePlanted, AreAllLawful}
 use Rattle.ak_image.specs.Scans.{IsScan}
 use Rattle.ak_image.specs.Trees.{IsTreeOf, AreTreed}
 use Rattle.ak_levels.specs.Entries.{AreLawful}
 use Rattle.ak_levels.specs.Pending.{Lists}
-use Rattle.ak_meta.specs.Contents.{Content, IsMeta, rescue_at}
+use Rattle.ak_meta.specs.Contents.{Content, rescue_at}
+use Rattle.ak_meta.specs.Leaves.{leaves_at}
 use Rattle.ak_meta.specs.declared.meta.SeriesMeta.{SeriesMeta}
-use Rattle.ak_repair.proofs.Rebuilding.{never_lost_of, rebuilt_planted}
-use Rattle.ak_repair.specs.Damage.{IsDamagedNode}
+use Rattle.ak_repair.proofs.Levels.{some_made}
+use Rattle.ak_repair.proofs.Rebuilding.{rebuilt_planted}
 use Rattle.ak_repair.specs.Firsts.{firsts}
-use Rattle.ak_repair.specs.Follows.{AreRebuilt, IsRebuilt, IsLost, IsLostOf, made_of, pending_of}
+use Rattle.ak_repair.specs.Follows.{AreRebuilt, IsRebuilt, IsReferred, IsLost, IsLostOf, made_of, pending_of}
 use Rattle.ak_repair.specs.Reads.{IsReadStop}
 use Rattle.ak_volumes.specs.Ordinals.{Ordinals}
 use Rattle.ak_world.specs.Leaves.{Leaf}
@@ -155,50 +155,52 @@ planted_all o seen series kept i levels past so_far =
     subst (λ (ks : List SeriesMeta). ArePlanted o seen i ks so_far.rest (firsts ks so_far.rest) []) (sym none) (left, refl, refl) in
     subst (ArePlanted o seen 0 series kept (firsts series kept)) (append-nil levels) (so_far.goes [] last)
 
--- ---- Sound disks
+-- ---- Damaged nodes
 
-tree_in : (o : Ordinals) (seen : Seen) (k n : ℕ) (series : List SeriesMeta) (kept : List (List Leaf)) → n < length series → AreTreed o seen k series kept → IsTreeOf o seen (k + n) (series_in series n) (kept_in kept n)
-tree_in o seen k n [] kept within are = absurd (omega arith)
-tree_in o seen k n (s ∷ series) [] within are = absurd are
-tree_in o seen k zero (s ∷ series) (leaves ∷ kept) within are = let same : k ≡ k + 0 = omega arith in subst (λ (x : ℕ). IsTreeOf o seen x s leaves) same are.0
-tree_in o seen k (suc n) (s ∷ series) (leaves ∷ kept) within are =
-    let same : suc k + n ≡ k + suc n = omega arith in
-    subst (λ (x : ℕ). IsTreeOf o seen x (series_in series n) (kept_in kept n)) same (tree_in o seen (suc k) n series kept (omega arith) are.1)
+-- where the node from which so many are followed is named, a lost one is damaged
+named_lost : (seen : Seen) (o : Ordinals) (c : Content) (series level left number at file block : ℕ) → left ≤ number → (1 ≤ left → IsNamed seen o c series level (number - 1) at) → IsLost seen o series level left number at file block
+    → IsDamagedNode seen o c file block
+named_lost seen o c series level zero number at file block few named lost = absurd lost
+named_lost seen o c series level (suc left) number at file block few named (live, inl here) = record {
+  series = series;
+  level = level;
+  number = number - 1;
+  at = at;
+  named = named (omega arith);
+  live = live;
+  file_is = here.0;
+  block_is = here.1;
+  none = here.2;
+}
+named_lost seen o c series level (suc left) number at file block few named (live, inr on) =
+    let referred : IsReferred seen series level (number - 1) at on.1 on.0 = on.2 in
+    let is : IsNodeOf seen series level (number - 1) at referred.node = record { is = referred.is; series_is = referred.series_is; level_is = referred.level_is; number_is = referred.number_is } in
+    let behind : 1 ≤ left → IsNamed seen o c series level (number - 1 - 1) on.1 = λ some.
+    let next : number - 1 ≡ suc (number - 1 - 1) = omega (arith, few, some) in
+    subst (IsNamed seen o c series level (number - 1 - 1)) referred.elder_is
+    (elder series level (number - 1 - 1) at referred.node (subst (λ (n : ℕ). IsNamed seen o c series level n at) next (named (omega arith))) live
+    (subst (λ (n : ℕ). IsNodeOf seen series level n at referred.node) next is)) in
+    named_lost seen o c series level left (number - 1) on.1 file block (omega (arith, few)) behind on.3
 
-leaves_past : (all : List SeriesMeta) (n : ℕ) → length all ≤ n → (series_in all n).leaves ≡ 0
-leaves_past [] n past = refl
-leaves_past (s ∷ all) zero past = absurd (omega arith)
-leaves_past (s ∷ all) (suc n) past = leaves_past all n (omega arith)
+-- the last node of a level is named
+lost_named : (seen : Seen) (c : Content) (n file block : ℕ) → IsLostOf seen c.ordinals n (series_in c.series n) file block → IsDamagedNode seen c.ordinals c file block
+lost_named seen c n file block (level, low, lost) =
+    let leaves : ℕ = (series_in c.series n).leaves in
+    let same : leaves ≡ leaves_at c.series n = leaves_in c.series n in
+    let made_same : leaves_at c.series n / 32 ^ level - 1 ≡ made_of leaves level - 1 = ap (λ (x : ℕ). x / 32 ^ level - 1) (sym same) in
+    let named : 1 ≤ pending_of leaves level → IsNamed seen c.ordinals c n level (made_of leaves level - 1) (rescue_at (series_in c.series n).rescue level) = λ some.
+    subst (λ (x : ℕ). IsNamed seen c.ordinals c n level x (rescue_at (series_in c.series n).rescue level)) made_same
+    (rescue n level low (subst (λ (x : ℕ). 32 ^ level ≤ x) same (some_made leaves level (made_of leaves level) refl some))) in
+    named_lost seen c.ordinals c n level (pending_of leaves level) (made_of leaves level) (rescue_at (series_in c.series n).rescue level) file block (omega (arith, made_split 32 level leaves)) named lost
 
-lost_none : (seen : Seen) (o : Ordinals) (series level left number at file block : ℕ) → left ≡ 0 → IsLost seen o series level left number at file block → ⊥
-lost_none seen o series level zero number at file block none lost = lost
-lost_none seen o series level (suc left) number at file block none lost = omega (arith, none)
-
--- a lost node of one of them is damaged
 pub lost_damaged : (c : Content) (files read : Files) (o : Ordinals) (n : ℕ) (known : SeriesMeta) (file block : ℕ) → o ≡ c.ordinals → read ≡ files → series_in c.series n ≡ known
-    → IsLostOf (seen_in o.volumes read) o n known file block → IsDamagedNode c file block files
-lost_damaged c files read o n known file block same still here lost = (
-  n,
-  subst (λ (k : SeriesMeta). IsLostOf (seen_in c.ordinals.volumes files) c.ordinals n k file block) (sym here)
-      (subst (λ (v : Ordinals). IsLostOf (seen_in v.volumes files) v n known file block) same (subst (λ (f : Files). IsLostOf (seen_in o.volumes f) o n known file block) still lost)),
-)
+    → IsLostOf (seen_in o.volumes read) o n known file block → IsDamagedNode (seen_in c.ordinals.volumes files) c.ordinals c file block
+lost_damaged c files read o n known file block same still here lost =
+    lost_named (seen_in c.ordinals.volumes files) c n file block
+    (subst (λ (k : SeriesMeta). IsLostOf (seen_in c.ordinals.volumes files) c.ordinals n k file block) (sym here)
+    (subst (λ (v : Ordinals). IsLostOf (seen_in v.volumes files) v n known file block) same (subst (λ (f : Files). IsLostOf (seen_in o.volumes f) o n known file block) still lost)))
 
--- no node of a laid disk is damaged
-pub never_damaged : (c : Content) (files : Files) (kept : List (List Leaf)) (file block : ℕ) → IsMeta c → IsLaid (seen_in c.limits.volumes files) c kept → IsDamagedNode c file block files → ⊥
-never_damaged c files kept file block meta laid (n, lost) =
-    let seen : Seen = seen_in c.limits.volumes files in
-    let there : IsLostOf seen c.ordinals n (series_in c.series n) file block = subst (λ (m : ℕ). IsLostOf (seen_in m files) c.ordinals n (series_in c.series n) file block) meta.volumes lost in
-    elim (cases_lt n (length c.series)) [
-      | inl within ↦
-          never_lost_of c.ordinals seen n (series_in c.series n) (kept_in kept n) file block
-          (let same : 0 + n ≡ n = omega arith in subst (λ (x : ℕ). IsChain seen c.ordinals.lo x (series_in c.series n) (kept_in kept n)) same (chain_in seen c.ordinals.lo c.ordinals.fills 0 n c.series kept within laid.leaves))
-          (let same : 0 + n ≡ n = omega arith in subst (λ (x : ℕ). IsTreeOf c.ordinals seen x (series_in c.series n) (kept_in kept n)) same (tree_in c.ordinals seen 0 n c.series kept within laid.trees))
-          there
-      | inr past ↦
-          let none : made 32 there.0 (series_in c.series n).leaves ≡ 0 = made_none 32 there.0 (series_in c.series n).leaves (omega arith) (omega (arith, leaves_past c.series n past, fan_pos 32 there.0 (omega arith))) in
-          lost_none seen c.ordinals n there.0 (pending_of (series_in c.series n).leaves there.0) (made_of (series_in c.series n).leaves there.0) (rescue_at (series_in c.series n).rescue there.0) file block
-          (omega (arith, none)) there.2
-    ]
+-- ---- Sound disks
 
 disk_or_memory : {P : ℕ → ℕ → Type 0} (old new : HostState) (stop : Stop) → ((file block : ℕ) → P file block → ⊥) → IsReadStop P old new stop → (stop ≡ Disk) ⊎ (stop ≡ Memory)
 disk_or_memory old new Disk none is = inl refl

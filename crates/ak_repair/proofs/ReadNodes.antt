@@ -10,6 +10,7 @@ use Rattle.ak_cache.specs.Nodes.{SpellsAskedInner, SpellsNoInner}
 use Rattle.ak_forest.specs.Tree.{Node, Reference, first_of, found_in}
 use Rattle.ak_forest.specs.Tree.{joined as joined_by}
 use Rattle.ak_image.specs.Blocks.{Seen}
+use Rattle.ak_image.specs.Named.{IsNoNode}
 use Rattle.ak_image.specs.Nodes.{IsNodeAt, reference_of}
 use Rattle.ak_inner.proofs.Nodes.{inner_head}
 use Rattle.ak_inner.specs.Nodes.{SpellsInner}
@@ -22,7 +23,7 @@ use Rattle.ak_levels.specs.Closes.{leaf_ref, node_ref, first_leaf_of}
 use Rattle.ak_levels.specs.Entries.{IsTally}
 use Rattle.ak_levels.specs.Joins.{joined_refs}
 use Rattle.ak_meta.specs.Leaves.{address_at}
-use Rattle.ak_repair.specs.Follows.{IsReferred, IsNoNode}
+use Rattle.ak_repair.specs.Follows.{IsReferred}
 use Rattle.ak_summary.specs.Folds.{no_summary, summary_of}
 use Rattle.ak_summary.specs.Summaries.{IsBounded, IsOrderly, joined}
 use Rattle.ak_world.specs.Leaves.{Leaf}

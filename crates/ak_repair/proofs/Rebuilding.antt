@@ -1,19 +1,19 @@
 -- What the rescue addresses of a sound disk lead to is what belongs to its blocks.
-use Rattle.std.proofs.Common.{◌≡◌, inl, inr, ◌∙◌, ℕ, zero, suc, pred, ◌+◌, ◌-◌, ◌*◌, ◌^◌, ◌<◌, ◌≤◌, max, nat_le, Bool, true, if◌then◌else◌, get_or, List, [], ◌∷◌, ◌++◌, length, map, refl, sym, ap, ap₂, subst, arith, length-append, suc-mul}
+use Rattle.std.proofs.Common.{◌≡◌, inl, inr, ◌∙◌, ℕ, zero, suc, pred, ◌+◌, ◌-◌, ◌*◌, ◌^◌, ◌<◌, ◌≤◌, max, get_or, List, [], ◌∷◌, ◌++◌, length, map, refl, sym, ap, ap₂, subst, arith, length-append, suc-mul}
 use Rattle.std.proofs.Math.Nat.{pow-le-pow_right}
 use Rattle.std.proofs.lemmas.Bool.{cases_lt}
-use Rattle.std.proofs.lemmas.Bool.Decides.{nat_tests}
 use Rattle.std.proofs.lemmas.List.{map-append}
 use Rattle.std.specs.List.{AllByRecursion}
 use Rattle.ak_base.specs.Points.{IsHistory}
-use Rattle.ak_base.specs.declared.point.Addr.{Addr}
 use Rattle.ak_forest.proofs.Arith.{end_made, made_end, made_mono, made_split, made_none, start_level, times_one, fan_pos}
 use Rattle.ak_forest.proofs.Tally.{node_tally, node_ends}
 use Rattle.ak_forest.specs.Numbers.{made, end}
-use Rattle.ak_forest.specs.Tree.{Node, Reference, Link, Elder, Child, Children, Stands, IsTree, Waits, first_of, found_in, spot, width}
+use Rattle.ak_forest.specs.Tree.{Node, Reference, Link, Elder, Child, Children, Stands, IsTree, Waits, first_of, found_in, spot}
 use Rattle.ak_forest.specs.Tree.{joined as joined_by}
 use Rattle.ak_image.proofs.Lifting.{all_some, totals_join}
+use Rattle.ak_image.proofs.Naming.{link_there}
 use Rattle.ak_image.proofs.OneNode.{one_node}
+use Rattle.ak_image.proofs.Rescuing.{point_low}
 use Rattle.ak_image.specs.Blocks.{Seen}
 use Rattle.ak_image.specs.Chains.{IsChain}
 use Rattle.ak_image.specs.Nodes.{IsNodeAt, Reads, reference_of}
@@ -27,7 +27,7 @@ use Rattle.ak_meta.specs.Contents.{rescue_at}
 use Rattle.ak_meta.specs.declared.meta.SeriesMeta.{SeriesMeta}
 use Rattle.ak_repair.proofs.ReadNodes.{referred_orderly}
 use Rattle.ak_repair.proofs.Times.{order_joined, order_pushed, time_at, time_none, time_rises, time_same, time_whole, total_begins, total_ends}
-use Rattle.ak_repair.specs.Follows.{AreFollowed, IsReferred, IsLost, IsRebuilt, IsLostOf, made_of, pending_of}
+use Rattle.ak_repair.specs.Follows.{AreFollowed, IsReferred, IsRebuilt, made_of, pending_of}
 use Rattle.ak_summary.specs.Summaries.{IsOrderly, joined}
 use Rattle.ak_summary.specs.declared.summary.Summary.{Summary}
 use Rattle.ak_volumes.specs.Ordinals.{Ordinals, IsLive}
@@ -46,26 +46,7 @@ module _ (o : Ordinals) (seen : Seen) (series low count : ℕ) (leaves : List Le
     (tree : IsTree 32 o.lo series low count (address_of leaves) (total_of leaves) rescue (Reads o seen)) where
   -- ---- Links
 
-  -- a link to a node that is live
-  record IsThere (k j at : ℕ) : Type 0 where
-    below : low < end 32 k j
-    place : at ≡ spot 32 (address_of leaves) k j
-    from : made 32 k low ≤ j
-
-  link_there : (k j at : ℕ) → Link 32 o.lo low (address_of leaves) k j at → IsLive o at → IsThere k j at
-  link_there k j at link live = elim (cases_lt low (end 32 k j)) [
-    | inl below ↦ record {
-      below = below;
-      place = link.live below;
-      from = elim (cases_lt j (made 32 k low)) [
-        | inl less ↦ absurd (omega (arith, below, end_made 32 k j low (omega arith) less))
-        | inr past ↦ past
-      ];
-    }
-    | inr gone ↦ let dead : at < o.lo * width = link.dead gone in absurd (omega (arith, dead, live.ordinal.from))
-  ]
-
-  -- and to one that isn't
+  -- a link to a node that isn't live
   link_gone : (k j at : ℕ) → j < made 32 k count → Link 32 o.lo low (address_of leaves) k j at → ¬ IsLive o at → suc j ≤ made 32 k low
   link_gone k j at there link dead = elim (cases_lt low (end 32 k j)) [
     | inl below ↦
@@ -120,7 +101,7 @@ module _ (o : Ordinals) (seen : Seen) (series low count : ℕ) (leaves : List Le
   -- of the node that stands there
   next_of : (k j at elder : ℕ) (r : Ref) → j < made 32 k count → Link 32 o.lo low (address_of leaves) k j at → IsLive o at → IsReferred seen series k j at elder r → IsNext k j at elder r
   next_of k j at elder r below link live referred =
-      let there = link_there k j at link live in
+      let there = link_there o low (address_of leaves) k j at link live in
       let l = there.below in
       let e : end 32 k j ≤ count = end_made 32 k j count (omega arith) below in
       let s = tree.nodes k j l e in
@@ -184,7 +165,7 @@ module _ (o : Ordinals) (seen : Seen) (series low count : ℕ) (leaves : List Le
       let less : suc j - 1 ≡ j = omega arith in
       let referred : IsReferred seen series k j at elder last = subst (λ (n : ℕ). IsReferred seen series k n at elder last) less live.1.4 in
       let next = next_of k j at elder last (omega (arith, most)) link live.0 referred in
-      let there = link_there k j at link live.0 in
+      let there = link_there o low (address_of leaves) k j at link live.0 in
       let rest : AreFollowed seen o series k left j elder front = subst (λ (n : ℕ). AreFollowed seen o series k left n elder front) less live.1.5 in
       let row = row_of k left j elder front (omega (arith, most)) there.from (omega (arith, few)) next.before rest in
       let is : front ++ last ∷ [] ≡ refs = sym live.1.3 in
@@ -201,21 +182,6 @@ module _ (o : Ordinals) (seen : Seen) (series low count : ℕ) (leaves : List Le
       length_map : (rs : List Ref) → length (map reference_of rs) ≡ length rs
       length_map [] = refl
       length_map (r ∷ rs) = ap suc (length_map rs)
-
-  -- none of them is lost
-  never_lost : (k left number at file block : ℕ) → number ≤ made 32 k count → left ≤ number → Elder 32 o.lo low (address_of leaves) k number at → IsLost seen o series k left number at file block → ⊥
-  never_lost k zero number at file block most few elder lost = lost
-  never_lost k (suc left) zero at file block most few elder lost = absurd (omega (arith, few))
-  never_lost k (suc left) (suc j) at file block most few link (live, inl here) =
-      let there = link_there k j at link live in
-      let s = tree.nodes k j there.below (end_made 32 k j count (omega arith) (omega (arith, most))) in
-      let less : suc j - 1 ≡ j = omega arith in
-      here.2 s.node (subst (λ (a : ℕ). IsNodeAt seen a s.node) (sym there.place) s.read.1) s.of_series s.of_level (s.numbered ∙ sym less)
-  never_lost k (suc left) (suc j) at file block most few link (live, inr on) =
-      let less : suc j - 1 ≡ j = omega arith in
-      let referred : IsReferred seen series k j at on.1 on.0 = subst (λ (n : ℕ). IsReferred seen series k n at on.1 on.0) less on.2 in
-      let next = next_of k j at on.1 on.0 (omega (arith, most)) link live referred in
-      never_lost k left j on.1 file block (omega (arith, most)) (omega (arith, few)) next.before (subst (λ (n : ℕ). IsLost seen o series k left n on.1 file block) less on.3)
 
   -- ---- All levels
 
@@ -276,9 +242,6 @@ module _ (o : Ordinals) (seen : Seen) (series low count : ℕ) (leaves : List Le
 
 -- ---- One series
 
-point_low : (rescue : List Addr) (k : ℕ) → k ≤ 10 → point_of rescue k ≡ rescue_at rescue k
-point_low rescue k h = let low : nat_le k 10 ≡ true = grind (arith, nat_tests, h) in ap (λ (b : Bool). if b then rescue_at rescue k else none) low
-
 -- what waits of a series that is rebuilt belongs to its blocks
 pub rebuilt_planted : (o : Ordinals) (seen : Seen) (series : ℕ) (known : SeriesMeta) (leaves : List Leaf) (v : Lists) → known.leaves < 32 ^ 11 → length v.pending ≡ 11
     → IsChain seen o.lo series known leaves → IsTreeOf o seen series known leaves → IsRebuilt seen o series known v → IsPlanted o seen series known leaves (known.leaves - length leaves) v
@@ -299,16 +262,3 @@ rebuilt_planted o seen series known leaves v few levels chain tree rebuilt =
       order = order_all o seen series low known.leaves leaves (point_of known.rescue) numbers long each chain.history tree v levels few all known.last
           (omega (arith, time_whole low leaves known.leaves long, time_rises 0 known.last leaves (omega arith), chain.last));
     }
-
--- and none of its nodes is lost
-pub never_lost_of : (o : Ordinals) (seen : Seen) (series : ℕ) (known : SeriesMeta) (leaves : List Leaf) (file block : ℕ) → IsChain seen o.lo series known leaves → IsTreeOf o seen series known leaves
-    → IsLostOf seen o series known file block → ⊥
-never_lost_of o seen series known leaves file block chain tree (k, h, lost) =
-    let low : ℕ = known.leaves - length leaves in
-    let first : chain.first ≡ low = omega (arith, chain.count) in
-    let numbers : AreNumbered low leaves = subst (λ (n : ℕ). AreNumbered n leaves) first chain.numbers in
-    let long : low + length leaves ≡ known.leaves = omega (arith, chain.count) in
-    let each : AllByRecursion (λ (leaf : Leaf). 0 < length leaf.points) leaves = all_some seen series chain.before leaves (rescue_at known.rescue 0) chain.links in
-    never_lost o seen series low known.leaves leaves (point_of known.rescue) numbers long each chain.history tree k (pending_of known.leaves k) (made_of known.leaves k) (point_of known.rescue k) file block
-    (omega arith) (omega (arith, made_split 32 k known.leaves)) (tree.rescues k)
-    (subst (λ (a : ℕ). IsLost seen o series k (pending_of known.leaves k) (made_of known.leaves k) a file block) (sym (point_low known.rescue k h)) lost)

@@ -2,6 +2,7 @@
 use Rattle.std.specs.Prelude.{ℕ, zero, suc, ◌≡◌, ◌⊎◌, ◌-◌, ◌/◌, ◌%◌, ◌^◌, ◌≤◌, List, [], ◌∷◌, ◌++◌}
 use Rattle.ak_forest.specs.Tree.{Node, found_in}
 use Rattle.ak_image.specs.Blocks.{Seen}
+use Rattle.ak_image.specs.Named.{IsNoNode}
 use Rattle.ak_image.specs.Nodes.{IsNodeAt, reference_of}
 use Rattle.ak_inner.specs.declared.reference.Ref.{Ref}
 use Rattle.ak_levels.specs.Pending.{Lists, pending_at}
@@ -20,10 +21,6 @@ pub record IsReferred (seen : Seen) (series level number at elder : ℕ) (r : Re
   pub number_is : node.number ≡ number
   pub elder_is : node.elder ≡ elder
   pub reference_is : reference_of r ≡ found_in joined level at node
-
--- The block at an address spells no such node.
-abbrev pub IsNoNode : Seen → ℕ → ℕ → ℕ → ℕ → Type 0
-IsNoNode seen series level number at = (node : Node) → IsNodeAt seen at node → node.series ≡ series → node.level ≡ level → node.number ≡ number → ⊥
 
 -- The references to so many nodes of a level back along elder links, the oldest first, where the last of them is the one before
 -- this number and a link names this address for it. They end before an address that isn't live.

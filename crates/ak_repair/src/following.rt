@@ -2,10 +2,11 @@
 ghost use Rattle.std.specs.Prelude.{◌≡◌, ◌≢◌, ℕ, ◌+◌, ◌-◌, ◌^◌, ◌<◌, ◌≤◌, [], true, false, length, slice_index_or, OnOk, IfOk, IfErr};
 ghost use Rattle.std.specs.List.{AllByRecursion};
 ghost use Rattle.ak_cache.specs.Leaves.{KeepsReach};
+ghost use Rattle.ak_image.specs.Named.{IsNoNode};
 ghost use Rattle.ak_image.specs.Blocks.{seen_in, AreThere};
 ghost use Rattle.ak_levels.specs.Entries.{IsTally};
 ghost use Rattle.ak_levels.specs.Pending.{pending_at};
-ghost use Rattle.ak_repair.specs.Follows.{AreFollowed, IsReferred, IsNoNode, IsLost};
+ghost use Rattle.ak_repair.specs.Follows.{AreFollowed, IsReferred, IsLost};
 ghost use Rattle.ak_repair.specs.Reads.{OnlyReads, IsReadStop};
 ghost use Rattle.ak_volumes.specs.Ordinals.{IsLive, ordinal_of, index_of, file_of};
 

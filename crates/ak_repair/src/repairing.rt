@@ -1,12 +1,12 @@
 //! What waits of each series, as its live leaves make it.
-ghost use Rattle.std.specs.Prelude.{◌≡◌, ◌⊎◌, ℕ, ◌+◌, ◌*◌, ◌≤◌, List, length, IfOk, IfErr};
+ghost use Rattle.std.specs.Prelude.{◌≡◌, ◌⊎◌, ℕ, ◌+◌, ◌*◌, ◌^◌, ◌≤◌, List, length, IfOk, IfErr};
 ghost use Rattle.ak_cache.specs.Leaves.{KeepsReach};
 ghost use Rattle.ak_image.specs.Blocks.{seen_in, AreThere};
 ghost use Rattle.ak_image.specs.Laid.{IsLaid};
+ghost use Rattle.ak_image.specs.Named.{IsDamagedNode};
 ghost use Rattle.ak_image.specs.Planted.{ArePlanted, AreAllLawful};
 ghost use Rattle.ak_levels.specs.Entries.{AreLawful};
 ghost use Rattle.ak_meta.specs.Contents.{IsMeta};
-ghost use Rattle.ak_repair.specs.Damage.{IsDamagedNode};
 ghost use Rattle.ak_repair.specs.Firsts.{firsts};
 ghost use Rattle.ak_repair.specs.Follows.{AreRebuilt, IsRebuilt, IsLostOf};
 ghost use Rattle.ak_repair.specs.Reads.{OnlyReads, IsReadStop};
@@ -39,7 +39,7 @@ pub fn repair<D: Disk>(alloc: Global, reach: &mut Reach<D>, meta: &Meta) -> Resu
     ensures cache { reach.new.cache.now ≡ reach.old.cache.now }
     ensures reads { OnlyReads D.tells (D.state reach.old.disk.now) (D.state reach.new.disk.now) }
     ensures stops { IfErr result (IsReadStop
-        (λ file block. D.tells → IsDamagedNode meta.now file block (D.state reach.old.disk.now).files)
+        (λ file block. D.tells → IsDamagedNode (seen_in meta.now.ordinals.volumes (D.state reach.old.disk.now).files) meta.now.ordinals meta.now file block)
         (D.state reach.old.disk.now) (D.state reach.new.disk.now)) }
     ensures lawful { IfOk result (λ levels. AreAllLawful meta.now.series levels) }
     ensures planted { D.tells → (kept : List (List Leaf)) → IsLaid (seen_in meta.now.limits.volumes (D.state reach.old.disk.now).files) meta.now kept
@@ -73,6 +73,7 @@ fn repair_series<D: Disk>(
     series: u32,
     known: &SeriesMeta,
 ) -> Result<Levels, Stop>
+    requires most { known.now.leaves ≤ 2 ^ 52 }
     requires there { AreThere reach.old.volumes.now (D.state reach.old.disk.now) }
     ensures keeps { KeepsReach reach.old reach.new }
     ensures cache { reach.new.cache.now ≡ reach.old.cache.now }

@@ -13,7 +13,7 @@ use Rattle.ak_host.specs.Marks.{Mark, Taken, done, Telling, told_to}
 use Rattle.ak_host.specs.Moments.{HostState, Passes, DiskPasses, PortPasses, HoldsFrom, mark_now}
 use Rattle.ak_host.proofs.Passing.{passes_weaker, mark_holds, holds_here, holds_on}
 use Rattle.ak_node.specs.Calls.{Begins, Told, IsSilent}
-use Rattle.ak_repair.specs.Damage.{IsDamagedBlock}
+use Rattle.ak_image.specs.Named.{IsDamagedBy}
 use Rattle.ak_record.specs.Stops.{IsTaken}
 use Rattle.ak_world.specs.Views.{View}
 use Rattle.ak_words.specs.Words.{IsCommand}
@@ -313,9 +313,7 @@ end_later words told old mid new (Damaged file block) cause disk port files line
         number = leaf.number;
         found = leaf.found;
         newest = leaf.newest;
-        now = leaf.now;
-        becomes = leaf.becomes;
-        damaged = subst (IsDamagedBlock leaf.now file block) (sym (files t)) leaf.damaged;
+        damaged = subst (IsDamagedBy leaf.found file block) (sym (files t)) leaf.damaged;
       }),
     )
 end_later words told old mid new Disk cause disk port files line = subst (Rose old.disk_faults) (sym disk) cause

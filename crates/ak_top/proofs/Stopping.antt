@@ -4,9 +4,10 @@ use Rattle.std.specs.Result.{IsErrAnd}
 use Rattle.ak_base.specs.declared.stop.Stop.{Stop}
 use Rattle.ak_base.specs.declared.stop.Stop.TheVariants.{Usage, Damaged, Disk, Port, Memory, Budget, Worn, NoStore, Exists}
 use Rattle.ak_host.specs.Moments.{HostState, mark_now}
+use Rattle.ak_image.specs.Blocks.{seen_in}
 use Rattle.ak_image.specs.Images.{IsSound, StandsFor}
 use Rattle.ak_meta.specs.Contents.{Content}
-use Rattle.ak_node.specs.Calls.{IsNodeStop, IsSoundStop}
+use Rattle.ak_node.specs.Calls.{IsSoundStop}
 use Rattle.ak_node.specs.Opening.{IsDamagedByFound, IsFoundRecord, IsNodeOpenStop}
 use Rattle.ak_record.specs.Stops.{IsDamaged}
 use Rattle.ak_tree.proofs.Becoming.{becomes_same}
@@ -50,18 +51,6 @@ told_worn w Exists told = absurd told
 
 -- ---- Causes
 
--- the cause of a stop is one from any moment before
-pub node_later : (told : Type 0) (c d : Content) (old mid new : HostState) (s : Stop) → old.disk_faults ≤ mid.disk_faults → old.port_faults ≤ mid.port_faults → IsNodeStop told c d mid new s → IsNodeStop told c d old new s
-node_later told c d old mid new Memory disk port why = tt
-node_later told c d old mid new Disk disk port why = omega (arith, why, disk)
-node_later told c d old mid new Port disk port why = omega (arith, why, port)
-node_later told c d old mid new (Damaged file block) disk port why = why
-node_later told c d old mid new (Worn ordinal fill number) disk port why = tt
-node_later told c d old mid new Usage disk port why = absurd why
-node_later told c d old mid new Budget disk port why = absurd why
-node_later told c d old mid new NoStore disk port why = absurd why
-node_later told c d old mid new Exists disk port why = absurd why
-
 -- what a stop as a run is served says of worn stores
 abbrev WornAs : Stop → (Stop → Type 0) → Type 0
 WornAs s P = OnWorn {T = Unit {0}} (Err s) P
@@ -69,14 +58,14 @@ WornAs s P = OnWorn {T = Unit {0}} (Err s) P
 served_run : (told : Type 0) (number : ℕ) (was : Content) (old mid new : HostState) (s : Stop) → (told → IsFoundRecord number was old.files) → old.disk_faults ≤ mid.disk_faults → old.port_faults ≤ mid.port_faults
     → (told → (view : View) → IsSound old.files → StandsFor view old.files → WornAs s (HasWorn view (mark_now old) (mark_now new))) → IsServeStop told was mid new s → IsRunStop told old new s
 served_run told number was old mid new Memory found disk port worn (inl why) = tt
-served_run told number was old mid new Disk found disk port worn (inl why) = omega (arith, why.1, disk)
-served_run told number was old mid new Port found disk port worn (inl why) = omega (arith, why.1, port)
+served_run told number was old mid new Disk found disk port worn (inl why) = omega (arith, why, disk)
+served_run told number was old mid new Port found disk port worn (inl why) = omega (arith, why, port)
 served_run told number was old mid new (Worn ordinal fill last) found disk port worn (inl why) = worn
-served_run told number was old mid new (Damaged file block) found disk port worn (inl why) = λ t. let leaf = why.1 t in inr (record { number = number; found = was; newest = found t; now = why.0; becomes = leaf.0; damaged = inr leaf.1 })
-served_run told number was old mid new Usage found disk port worn (inl why) = absurd why.1
-served_run told number was old mid new Budget found disk port worn (inl why) = absurd why.1
-served_run told number was old mid new NoStore found disk port worn (inl why) = absurd why.1
-served_run told number was old mid new Exists found disk port worn (inl why) = absurd why.1
+served_run told number was old mid new (Damaged file block) found disk port worn (inl why) = λ t. inr (record { number = number; found = was; newest = found t; damaged = why t was (becomes_same (seen_in was.ordinals.volumes mid.files) was) })
+served_run told number was old mid new Usage found disk port worn (inl why) = absurd why
+served_run told number was old mid new Budget found disk port worn (inl why) = absurd why
+served_run told number was old mid new NoStore found disk port worn (inl why) = absurd why
+served_run told number was old mid new Exists found disk port worn (inl why) = absurd why
 served_run told number was old mid new s found disk port worn (inr is) = subst (IsRunStop told old new) (sym is) tt
 
 -- why a run stops as it is opened
@@ -85,7 +74,14 @@ open_run told old new NoStore why = why
 open_run told old new (Damaged file block) why = λ t. damage (why t) where
   damage : IsDamaged file block old.files ⊎ IsDamagedByFound old new file block → IsDamaged file block old.files ⊎ IsDamagedIn old new file block
   damage (inl at) = inl at
-  damage (inr leaf) = inr (record { number = leaf.0; found = leaf.1; newest = leaf.2; now = leaf.1; becomes = becomes_same leaf.1; damaged = inl leaf.3 })
+  damage (inr node) =
+      let same = becomes_same (seen_in node.1.ordinals.volumes old.files) node.1 in
+      inr (record {
+        number = node.0;
+        found = node.1;
+        newest = node.2;
+        damaged = record { now = node.1.ordinals; rules_are = node.2.rules_are.ordinals_are; grown = same.ordinals; damaged = node.3 };
+      })
 open_run told old new Disk why = why
 open_run told old new Memory why = tt
 open_run told old new Usage why = absurd why
@@ -103,14 +99,14 @@ run_stops told number was old mid new (Err s) found disk port worn stops = serve
 served_scratch : (told : Type 0) (was : Content) (old mid new : HostState) (s : Stop) → (told → IsSoundStop s) → old.disk_faults ≤ mid.disk_faults → old.port_faults ≤ mid.port_faults
     → (told → WornAs s (HasWorn (first_view scratch_limits) (mark_now old) (mark_now new))) → IsServeStop told was mid new s → IsScratchStop told old new s
 served_scratch told was old mid new Memory sound disk port worn (inl why) = tt
-served_scratch told was old mid new Disk sound disk port worn (inl why) = omega (arith, why.1, disk)
-served_scratch told was old mid new Port sound disk port worn (inl why) = omega (arith, why.1, port)
+served_scratch told was old mid new Disk sound disk port worn (inl why) = omega (arith, why, disk)
+served_scratch told was old mid new Port sound disk port worn (inl why) = omega (arith, why, port)
 served_scratch told was old mid new (Worn ordinal fill number) sound disk port worn (inl why) = worn
 served_scratch told was old mid new (Damaged file block) sound disk port worn (inl why) = sound
-served_scratch told was old mid new Usage sound disk port worn (inl why) = absurd why.1
-served_scratch told was old mid new Budget sound disk port worn (inl why) = absurd why.1
-served_scratch told was old mid new NoStore sound disk port worn (inl why) = absurd why.1
-served_scratch told was old mid new Exists sound disk port worn (inl why) = absurd why.1
+served_scratch told was old mid new Usage sound disk port worn (inl why) = absurd why
+served_scratch told was old mid new Budget sound disk port worn (inl why) = absurd why
+served_scratch told was old mid new NoStore sound disk port worn (inl why) = absurd why
+served_scratch told was old mid new Exists sound disk port worn (inl why) = absurd why
 served_scratch told was old mid new s sound disk port worn (inr is) = subst (IsScratchStop told old new) (sym is) tt
 
 -- the same where it was made
@@ -155,11 +151,11 @@ serve_serving told was old new Memory why sound = inr (inr (inl refl))
 serve_serving told was old new Budget why sound = inr (inr (inr (inl refl)))
 serve_serving told was old new (Worn ordinal fill number) why sound = inr (inr (inr (inr (ordinal, fill, number, refl))))
 serve_serving told was old new (Damaged file block) why sound = absurd sound
-serve_serving told was old new Usage (inl why) sound = absurd why.1
+serve_serving told was old new Usage (inl why) sound = absurd why
 serve_serving told was old new Usage (inr is) sound = cc
-serve_serving told was old new NoStore (inl why) sound = absurd why.1
+serve_serving told was old new NoStore (inl why) sound = absurd why
 serve_serving told was old new NoStore (inr is) sound = cc
-serve_serving told was old new Exists (inl why) sound = absurd why.1
+serve_serving told was old new Exists (inl why) sound = absurd why
 serve_serving told was old new Exists (inr is) sound = cc
 
 -- as it is served

@@ -14,7 +14,7 @@ use Rattle.ak_run.specs.Run.{World}
 
 -- A run of turns stops as a node does whose record was this, or where its turns are spent.
 abbrev pub IsServeStop : Type 0 → Content → HostState → HostState → Stop → Type 0
-IsServeStop told was old new s = ((now : Content) × IsNodeStop told was now old new s) ⊎ (s ≡ Budget)
+IsServeStop told was old new s = IsNodeStop told was old new s ⊎ (s ≡ Budget)
 
 abbrev pub ServeStopsBy : Type 0 → Content → HostState → HostState → Result (Unit {0}) Stop → Type 0
 ServeStopsBy told was old new (Ok v) = Unit {0}

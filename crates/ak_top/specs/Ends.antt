@@ -8,12 +8,11 @@ use Rattle.ak_host.specs.Causes.{Rose}
 use Rattle.ak_host.specs.Marks.{Mark}
 use Rattle.ak_host.specs.Moments.{HostState, mark_now}
 use Rattle.ak_image.specs.Images.{IsSound, StandsFor}
+use Rattle.ak_image.specs.Named.{IsDamagedBy}
 use Rattle.ak_meta.specs.Contents.{Content}
 use Rattle.ak_node.specs.Calls.{console_of}
-use Rattle.ak_repair.specs.Damage.{IsDamagedBlock}
 use Rattle.ak_node.specs.Opening.{IsFoundRecord}
 use Rattle.ak_record.specs.Stops.{IsNoStore, IsTaken, IsDamaged}
-use Rattle.ak_tree.specs.Later.{Becomes}
 use Rattle.ak_tree.specs.Stops.{OnWorn}
 use Rattle.ak_words.specs.Words.{IsCommand}
 use Rattle.ak_top.specs.Commands.{IsRun, Makes, Serves, Opens, scratch_limits}
@@ -22,14 +21,12 @@ use Rattle.ak_top.specs.Kept.{KeepsLast}
 use Rattle.ak_top.specs.Told.{IsComplete, EndsDone, AreSpent, IsWorn, HasWorn, line_of}
 use Rattle.ak_world.specs.Views.{View, first_view}
 
--- This block is damaged by the record that was found, or by what became of it in the call.
+-- This block is damaged by the record that was found.
 pub record IsDamagedIn (old new : HostState) (file block : ℕ) : Type 0 where
   pub number : ℕ
   pub found : Content
   pub newest : IsFoundRecord number found old.files
-  pub now : Content
-  pub becomes : Becomes found now
-  pub damaged : IsDamagedBlock now file block new.files
+  pub damaged : IsDamagedBy found file block new.files
 
 -- What was damaged, for `run`: what an opening reads, or a block that was read in the call.
 abbrev pub IsRunDamage : List (List ℕ) → HostState → HostState → ℕ → ℕ → Type 0

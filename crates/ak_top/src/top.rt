@@ -10,7 +10,7 @@ ghost use Rattle.ak_image.specs.Images.{IsSound, StandsFor};
 ghost use Rattle.ak_node.specs.Calls.{HasStops, IsSilent, IsSoundStop, Told};
 ghost use Rattle.ak_node.specs.Opening.{IsFirst};
 ghost use Rattle.ak_record.specs.Stops.{IsNoStore, IsTaken, IsMakeStop};
-ghost use Rattle.ak_tree.specs.Later.{Becomes};
+ghost use Rattle.ak_tree.specs.Later.{KeepsOrigins};
 ghost use Rattle.ak_tree.specs.Stops.{OnWorn};
 ghost use Rattle.ak_world.specs.Views.{View, first_view};
 ghost use Rattle.ak_words.specs.Words.{IsCommand};
@@ -37,8 +37,8 @@ fn take_turn<H: Host>(alloc: Global, host: &mut H, node: &mut Node) -> Result<We
     requires free { node.old.stop ≡ None }
     requires ready { CanServe H.tells node.old (H.state host.old) }
     ensures free { OnOk result (node.new.stop ≡ None) }
-    ensures stops { HasStops H.tells node.old.keeper.forest.meta node.new.keeper.forest.meta (H.state host.old) (H.state host.new) result }
-    ensures becomes { OnOk result (Becomes node.old.keeper.forest.meta node.new.keeper.forest.meta) }
+    ensures stops { HasStops H.tells node.old.keeper.forest.meta (H.state host.old) (H.state host.new) result }
+    ensures becomes { H.tells → OnOk result (KeepsOrigins (H.state host.old) (H.state host.new) node.old.keeper.forest.meta node.new.keeper.forest.meta) }
     ensures silent { H.tells → IsSilent (H.state host.old) (H.state host.new) }
     ensures sound { H.tells → (world : World) → Stands node.old world (H.state host.old) → IfErr result IsSoundStop }
     ensures ready { OnOk result (CanServe H.tells node.new (H.state host.new)) }

@@ -1,7 +1,7 @@
 -- What a leaf that is closed leaves of the others.
 use Rattle.std.proofs.Common.{◌≡◌, ◌≢◌, inl, inr, ℕ, zero, suc, ◌+◌, ◌-◌, ◌*◌, ◌^◌, ◌<◌, ◌≤◌, ◌∙◌, List, [], ◌∷◌, ◌++◌, length, get_or, set, slice_set, Option, Some, None, true, false, refl, sym, ap, ap₂, subst, arith, mod-lt}
 use Rattle.std.proofs.lemmas.Bool.{cases_eq, cond-false, ne_eqb, true≢false}
-use Rattle.std.proofs.Math.Nat.{mul-le-mul}
+use Rattle.std.proofs.Math.Nat.{mul-le-mul_right}
 use Rattle.std.proofs.lemmas.List.{get_or-set_same, get_or-set_other, get_or_read, length-map, length-set}
 use Rattle.std.specs.List.{AllByRecursion}
 use Rattle.std.specs.Prelude.{◌==◌, ◌%◌, slice_index, is_some}
@@ -17,7 +17,7 @@ use Rattle.ak_image.specs.Blocks.{AreThere, seen_in}
 use Rattle.ak_host.proofs.Passing.{disk_now, disk_weaker}
 use Rattle.ak_image.specs.Laid.{spot}
 use Rattle.ak_levels.specs.Carries.{carry_of}
-use Rattle.ak_meta.proofs.Closing.{leaves_there, some_leaves, fill_most}
+use Rattle.ak_meta.proofs.Closing.{leaves_there, leaves_most, some_leaves}
 use Rattle.ak_meta.specs.Contents.{Content, IsMeta, names_of}
 use Rattle.ak_meta.specs.Leaves.{with_leaf_at, closed_in, leaves_at}
 use Rattle.ak_meta.specs.declared.meta.SeriesMeta.{SeriesMeta}
@@ -140,18 +140,9 @@ others_of all known n others d same within is =
     is ∙ ap carry_of (ap (λ (l : List SeriesMeta). (get_or l n d).leaves) same ∙ sym (leaves_there known n d within))
 
 -- there are fewer leaves than blocks
-pub leaves_few : (c : Content) (n : ℕ) → IsMeta c → leaves_at c.series n < 2 ^ 53
-leaves_few c n is =
-    let o : Ordinals = c.ordinals in
-    let fill : newest_fill o ≤ o.blocks = fill_most o.blocks o.fills (length o.fills - 1) is.ordinals_are.within in
-    let blocks : o.blocks ≤ 1048576 = omega (arith, is.blocks, is.limits_are.blocks_most) in
-    let last : newest o ≤ 2 ^ 32 - 1 = omega (arith, is.ordinals_are.last, is.ordinals_are.some) in
-    let all : newest o * o.blocks ≤ (2 ^ 32 - 1) * 1048576 = mul-le-mul {n₁ = newest o} {m₁ = o.blocks} {n₂ = 2 ^ 32 - 1} {m₂ = 1048576} last blocks in
-    omega (arith, some_leaves c.series n, is.total, fill, blocks, all)
-
 pub known_few : (all : List SeriesMeta) (c : Content) (n : ℕ) (d : SeriesMeta) → all ≡ c.series → IsMeta c → n < length c.series → (get_or all n d).leaves < 2 ^ 53
 known_few all c n d same is within =
-    subst (λ (l : List SeriesMeta). (get_or l n d).leaves < 2 ^ 53) (sym same) (omega (arith, leaves_there c.series n d within, leaves_few c n is))
+    subst (λ (l : List SeriesMeta). (get_or l n d).leaves < 2 ^ 53) (sym same) (omega (arith, leaves_there c.series n d within, leaves_most c n is))
 
 pub names_closed : (all : List SeriesMeta) (n last at : ℕ) → names_of (with_leaf_at all n last at) ≡ names_of all
 names_closed [] n last at = refl
@@ -177,6 +168,13 @@ leaf_is w f n count frame are keeps is =
     let framed = are.framed n frame is in
     let found : IsFound (λ (u : Used). written_in w.series u.series ≡ u.leaf) f.pool.used frame.0 = found_in (λ (u : Used). written_in w.series u.series ≡ u.leaf) f.pool.used frame.0 keeps.open_leaves framed.0 in
     found.leaf ∙ sym found.known ∙ ap (written_in w.series) (sym found.series ∙ framed.1)
+
+-- the group that was written, by the record
+pub group_here : (c : Content) (n file index : ℕ) (g : Group) (ps : List Point) (u : Lists) (block : List ℕ) (old new : Files) → g ≡ group_at c n ps → file ≡ file_of c.ordinals (newest c.ordinals) → index ≡ newest_fill c.ordinals
+    → IsGroup file index g u block old new → IsGroupOf c n ps u block old new
+group_here c n file index g ps u block old new group_is file_is index_is group =
+    subst (λ (k : ℕ). IsGroup (file_of c.ordinals (newest c.ordinals)) k (group_at c n ps) u block old new) index_is
+    (subst (λ (k : ℕ). IsGroup k index (group_at c n ps) u block old new) file_is (subst (λ (h : Group). IsGroup file index h u block old new) group_is group))
 
 -- a leaf is closed, whose group has a place
 module _ (v : World) (f : Trees) (n file index : ℕ) (g : Group) (frame : Frame) (are : AreTrees f) (within : n < length f.meta.series) (framed : get_or f.frames n None ≡ Some frame)
@@ -204,9 +202,7 @@ module _ (v : World) (f : Trees) (n file index : ℕ) (g : Group) (frame : Frame
   same_group u block old new keeps group =
       subst (λ (c : Content). IsGroupOf c n (written_in v.series n) u block old new) keeps.content_is
       (subst (λ (ps : List Point). IsGroupOf f.meta n ps u block old new) (leaf_is v f n (length f.meta.series) frame are.pooled keeps framed)
-      (subst (λ (k : ℕ). IsGroup (file_of f.meta.ordinals (newest f.meta.ordinals)) k (group_at f.meta n (leaf_of f.pool.used frame.0)) u block old new) index_is
-      (subst (λ (k : ℕ). IsGroup k index (group_at f.meta n (leaf_of f.pool.used frame.0)) u block old new) file_is
-      (subst (λ (h : Group). IsGroup file index h u block old new) group_is group))))
+      (group_here f.meta n file index g (leaf_of f.pool.used frame.0) u block old new group_is file_is index_is group))
 
   same_run : (old new : HostState) → Keeps v f → DiskPasses (LeavesOutside file index (1 + g.others) old) old new
       → DiskPasses (LeavesOutside (file_of v.ordinals (newest v.ordinals)) (newest_fill v.ordinals) (1 + carry_of (leaves_at (content_now v).series n)) old) old new
@@ -382,13 +378,20 @@ is_roomed f one room n frame placed has same are within framed =
       room_for = λ k few. room_here room n k are inside places few;
     }
 
+-- there is a block for one leaf more
+leaves_next : (c : Content) (n : ℕ) → IsMeta c → newest_fill c.ordinals + (1 + carry_of (leaves_at c.series n)) ≤ c.ordinals.blocks → leaves_at c.series n + 1 ≤ 2 ^ 52
+leaves_next c n is fits =
+    let o : Ordinals = c.ordinals in
+    let ordinals : newest o * o.blocks ≤ (2 ^ 32 - 1) * o.blocks = mul-le-mul_right o.blocks (let e : newest o ≤ 2 ^ 32 - 1 = omega (arith, is.ordinals_are.last) in e) in
+    omega (arith, ordinals, fits, is.limits_are.blocks_most, is.blocks, is.total, some_leaves c.series n)
+
 -- what waits of a series once its leaf is entered is lawful
 pub waits_lawful : (f : Trees) (n : ℕ) (leaf : Ref) → AreTrees f → n < length f.meta.series → AreLawful (leaves_at f.meta.series n) (levels_at f n) → ((k : ℕ) → k ≤ carry_of (leaves_at f.meta.series n) → HasRoom (levels_at f n) k) → IsTally 0 leaf
-    → AreLawful (leaves_at f.meta.series n + 1) (closed_lists (levels_at f n) (leaves_at f.meta.series n) leaf)
-waits_lawful f n leaf are within lawful room tally =
+    → newest_fill f.meta.ordinals + (1 + carry_of (leaves_at f.meta.series n)) ≤ f.meta.ordinals.blocks → AreLawful (leaves_at f.meta.series n + 1) (closed_lists (levels_at f n) (leaves_at f.meta.series n) leaf)
+waits_lawful f n leaf are within lawful room tally fits =
     let m = leaves_at f.meta.series n in
     let next : suc m ≡ m + 1 = omega arith in
-    subst (λ (k : ℕ). AreLawful k (closed_lists (levels_at f n) m leaf)) next (closed_lawful (levels_at f n) m leaf (leaves_few f.meta n are.rules_are) lawful tally room)
+    subst (λ (k : ℕ). AreLawful k (closed_lists (levels_at f n) m leaf)) next (closed_lawful (levels_at f n) m leaf (omega (arith, leaves_next f.meta n are.rules_are fits)) lawful tally room)
 
 -- the frame of a series that was found
 pub frame_found : (f : Trees) (n : ℕ) (frames : List (Option Frame)) (found : Option Frame) (frame : Frame) → AreTrees f → frames ≡ f.frames → n < length f.meta.series → found ≡ get_or frames n found → found ≡ Some frame → get_or f.frames n None ≡ Some frame
@@ -400,11 +403,11 @@ pub enter_place : (f : Trees) (n others : ℕ) (w : Lists) → n < length f.leve
 enter_place f n others w within below room = subst (λ (u : Lists). HasRoom u others) (sym (set_at f.levels n w within)) (room_at (levels_at f n) w others below room)
 
 pub enter_lawful : (f : Trees) (n others : ℕ) (leaf above : Ref) (w : Lists) → AreTrees f → n < length f.meta.series → n < length f.levels → AreLawful (leaves_at f.meta.series n) (levels_at f n)
-    → ((k : ℕ) → k ≤ carry_of (leaves_at f.meta.series n) → HasRoom (levels_at f n) k) → IsTally 0 leaf → others ≡ carry_of (leaves_at f.meta.series n) → w ≡ emptied (levels_at f n) others → above ≡ raised (levels_at f n) leaf others
+    → ((k : ℕ) → k ≤ carry_of (leaves_at f.meta.series n) → HasRoom (levels_at f n) k) → IsTally 0 leaf → newest_fill f.meta.ordinals + (1 + others) ≤ f.meta.ordinals.blocks → others ≡ carry_of (leaves_at f.meta.series n) → w ≡ emptied (levels_at f n) others → above ≡ raised (levels_at f n) leaf others
     → AreLawful (leaves_at f.meta.series n + 1)
     (with_pending (levels_at (record f { levels = set f.levels n w }) n) others (pending_at (levels_at (record f { levels = set f.levels n w }) n) others ++ above ∷ []))
-enter_lawful f n others leaf above w are within long lawful room tally top below here =
-    subst (AreLawful (leaves_at f.meta.series n + 1)) (sym (waits_closed f.levels (set f.levels n w) n (leaves_at f.meta.series n) others leaf above w long refl below here top)) (waits_lawful f n leaf are within lawful room tally)
+enter_lawful f n others leaf above w are within long lawful room tally fits top below here =
+    subst (AreLawful (leaves_at f.meta.series n + 1)) (sym (waits_closed f.levels (set f.levels n w) n (leaves_at f.meta.series n) others leaf above w long refl below here top)) (waits_lawful f n leaf are within lawful room tally (omega (arith, fits, top)))
 
 -- The forest after it is entered, by the one before its group was written.
 pub record IsAfter (room new : Trees) (n others : ℕ) (frame : Frame) : Type 0 where
@@ -439,14 +442,6 @@ is_after f room new n others frame leaf above w same within top leaf_is below he
       check = check ∙ ap (λ (t : Trees). t.check) same;
       since = since ∙ ap (λ (t : Trees). t.since + 1) same;
     }
-
--- other series have as many leaves as before
-pub leaves_others : (all : List SeriesMeta) (n m last a : ℕ) → m ≢ n → leaves_at (with_leaf_at all n last a) m ≡ leaves_at all m
-leaves_others [] n m last a other = refl
-leaves_others (s ∷ all) zero zero last a other = absurd (other refl)
-leaves_others (s ∷ all) zero (suc m) last a other = refl
-leaves_others (s ∷ all) (suc n) zero last a other = refl
-leaves_others (s ∷ all) (suc n) (suc m) last a other = leaves_others all n m last a (λ e. other (ap suc e))
 
 -- the group fits the file
 pub index_fits : (o : Ordinals) (host : HostState) (file index blocks : ℕ) → AreOrdinals o → AreThere o host → file ≡ file_of o (newest o) → index ≡ newest_fill o → newest_fill o + blocks ≤ o.blocks → index + blocks ≤ slice_index host.sizes file

@@ -34,7 +34,7 @@ use Rattle.ak_meta.specs.declared.meta.SeriesMeta.{SeriesMeta}
 use Rattle.ak_tree.specs.Writing.{AreNodeBlocks, node_head}
 use Rattle.ak_tree.specs.declared.writing.Group.{Group}
 use Rattle.ak_levels.proofs.Ordered.{taken_refs}
-use Rattle.ak_tree.proofs.Planted.{leaves_most}
+use Rattle.ak_meta.proofs.Closing.{leaves_most}
 use Rattle.ak_volumes.specs.Ordinals.{Ordinals, newest, newest_fill, address, index_of, file_of}
 
 -- the block at an index of an ordinal, as it is seen at its address

@@ -28,11 +28,13 @@ use Rattle.ak_levels.specs.Pending.{Lists, no_lists}
 use Rattle.ak_meta.specs.Contents.{Content, IsMeta}
 use Rattle.ak_meta.specs.Leaves.{closed_in, leaves_at, with_leaf_at}
 use Rattle.ak_meta.specs.declared.meta.SeriesMeta.{SeriesMeta}
+use Rattle.ak_tree.specs.Later.{Becomes, KeepsOrigins}
 use Rattle.ak_tree.specs.Storing.{IsStored, IsLeftOf}
 use Rattle.ak_tree.specs.Standing.{base_of, bases_of}
 use Rattle.ak_tree.specs.Writing.{IsOutside, IsGroup, LeavesOutside}
 use Rattle.ak_image.proofs.Entering.{planted_group as planted_with_leaf}
-use Rattle.ak_tree.proofs.Becoming.{becomes_filled}
+use Rattle.ak_tree.proofs.Becoming.{filled_live, grown_filled, becomes_grown, becomes_closed}
+use Rattle.ak_tree.proofs.Entering.{spot_entered}
 use Rattle.ak_tree.proofs.Framing.{length_known}
 use Rattle.ak_tree.proofs.Groups.{block_seen, group_at, nodes_written, inner_there}
 use Rattle.ak_tree.proofs.Waiting.{planted_in, planted_entered}
@@ -121,6 +123,19 @@ module _ (c : Content) (n : ℕ) (ps : List Point) (rules : IsMeta c) (room : ne
     leaf = subst (λ (v : ℕ). IsLeafOf (seen_in v new) n (rescue_in c.series n) (next_leaf c n ps)) rules.volumes (leaf_written block new is group.block);
     inner = inner_there (seen_in c.limits.volumes new) c n ps u nodes;
   }
+
+  -- no live block changes, and the leaf that is entered stands spelled
+  pub origins_entered : (block : List ℕ) (old new : HostState) (u : Lists) (last : ℕ) → n < length c.series → IsLeafBlock block c n ps → IsGroupOf c n ps u block old.files new.files
+      → KeepsOrigins old new c (closed_in (record c { ordinals = filled c.ordinals (1 + carry_of (leaves_at c.series n)) }) n last (spot c.ordinals))
+  origins_entered block old new u last within is group found was =
+      let o : Ordinals = c.ordinals in
+      let others = carry_of (leaves_at c.series n) in
+      let entered = spot_entered o others rules.ordinals_are room in
+      let live : IsLive (filled o (1 + others)) (spot o) = record { ordinal = entered.ordinal; index = omega (arith, entered.index) } in
+      let filled_is : Becomes (seen_in o.volumes new.files) found (record c { ordinals = filled o (1 + others) }) =
+      becomes_grown (seen_in o.volumes old.files) (seen_in o.volumes new.files) found c (filled o (1 + others)) (grown_filled o (1 + others))
+      (λ a was from. live_same o (1 + others) old.files new.files rules.ordinals_are group.outside a was) was in
+      becomes_closed (seen_in o.volumes new.files) found (record c { ordinals = filled o (1 + others) }) n last (next_leaf c n ps) within live refl (leaf_written block new.files is group.block) filled_is
 
 -- ---- What a stop leaves
 
@@ -249,7 +264,7 @@ module _ (v : World) (n : ℕ) (is : IsClosing v n) where
         let ps = written_in v.series n in
         let blocks = 1 + carry_of (leaves_at c.series n) in
         let by = planted_entered c.ordinals (filled c.ordinals blocks) (seen_in c.limits.volumes old) (seen_in c.limits.volumes new) 0 n n (last_ts_from 0 ps) (spot c.ordinals) c.series (kept_now v) (bases_of v) levels (next_leaf c n ps)
-        (waits (get_or levels n no_lists)) refl (λ a live. ((becomes_filled c blocks).live a live live.ordinal.from, written.same a live)) within_here (omega arith) next_planted planted in
+        (waits (get_or levels n no_lists)) refl (λ a live. (filled_live c.ordinals blocks a live, written.same a live)) within_here (omega arith) next_planted planted in
         subst (λ (m : ℕ). ArePlanted (filled c.ordinals (1 + carry_of m)) (seen_in c.limits.volumes new) 0 (with_leaf_at c.series n (last_ts_from 0 ps) (spot c.ordinals)) (kept_with (kept_now v) n (record { number = m; address = spot c.ordinals; points = ps }))
         (bases_of v) (set levels n (waits (get_or levels n no_lists)))) same_leaves by
 

@@ -1,17 +1,14 @@
 -- What waits of each series, and the blocks that it belongs to.
-use Rattle.std.proofs.Common.{◌≡◌, ℕ, zero, suc, ◌-◌, ◌*◌, ◌^◌, ◌<◌, ◌≤◌, List, [], ◌∷◌, ◌++◌, length, get_or, refl, sym, ap, subst, arith}
-use Rattle.std.proofs.Math.Nat.{mul-le-mul_right}
+use Rattle.std.proofs.Common.{◌≡◌, ℕ, zero, suc, ◌<◌, List, [], ◌∷◌, ◌++◌, length, get_or, refl, sym, ap, subst, arith}
 use Rattle.ak_image.specs.Blocks.{Seen}
 use Rattle.ak_image.specs.Planted.{ArePlanted, AreAllLawful}
 use Rattle.ak_levels.proofs.Lawful.{no_lists_lawful}
 use Rattle.ak_levels.specs.Entries.{AreLawful}
 use Rattle.ak_levels.specs.Pending.{Lists, no_lists}
-use Rattle.ak_meta.proofs.Closing.{some_leaves, fill_most}
-use Rattle.ak_meta.specs.Contents.{Content, IsMeta}
 use Rattle.ak_meta.specs.Leaves.{new_series, leaves_at}
 use Rattle.ak_meta.specs.declared.meta.SeriesMeta.{SeriesMeta}
 use Rattle.ak_image.proofs.Growing.{planted_begun as planted_first, planted_same as planted_agrees}
-use Rattle.ak_volumes.specs.Ordinals.{Ordinals, IsLive, newest, newest_fill}
+use Rattle.ak_volumes.specs.Ordinals.{Ordinals, IsLive}
 use Rattle.ak_world.specs.Leaves.{Leaf}
 
 -- ---- What waits is lawful
@@ -63,11 +60,3 @@ all_named o seen n (known ∷ others) [] bases levels name are = absurd are
 all_named o seen n (known ∷ others) (leaves ∷ kept) [] levels name are = absurd are
 all_named o seen n (known ∷ others) (leaves ∷ kept) (base ∷ bases) [] name are = absurd are
 all_named o seen n (known ∷ others) (leaves ∷ kept) (base ∷ bases) (v ∷ levels) name are = (are.0, all_named o seen (suc n) others kept bases levels name are.1)
-
--- each leaf has a block
-pub leaves_most : (c : Content) (n : ℕ) → IsMeta c → leaves_at c.series n ≤ 2 ^ 52
-leaves_most c n is =
-    let o = c.ordinals in
-    let ordinals : newest o * o.blocks ≤ (2 ^ 32 - 1) * o.blocks = mul-le-mul_right o.blocks (let e : newest o ≤ 2 ^ 32 - 1 = omega (arith, is.ordinals_are.last) in e) in
-    let fill : newest_fill o ≤ o.blocks = fill_most o.blocks o.fills (length o.fills - 1) is.ordinals_are.within in
-    omega (arith, ordinals, fill, is.limits_are.blocks_most, is.blocks, is.total, some_leaves c.series n)

@@ -56,6 +56,7 @@ pub lawful_reserved : (v w : Lists) (m : ℕ) → w.pending ≡ v.pending → ((
 lawful_reserved v w m same keeps are =
     let at : (k : ℕ) → pending_at w k ≡ pending_at v k = λ k. ap (λ (l : List (List Ref)). get_or l k []) same in
     record {
+      most = are.most;
       few = λ k top. omega (arith, are.few k top, ap (length {A = Ref}) (at k));
       each = λ k top. subst (AllByRecursion (IsTally k)) (sym (at k)) (are.each k top);
       placed = λ k top reached. (keeps k (record { placed = are.placed k top reached; free = free_at v m k are top })).placed;

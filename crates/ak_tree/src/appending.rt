@@ -5,7 +5,7 @@ ghost use Rattle.ak_leaf.specs.Spelling.{leaf_size};
 ghost use Rattle.ak_meta.specs.Contents.{names_of};
 ghost use Rattle.ak_pool.specs.Frames.{Used, frames_of, used_frame, leaf_of, moved_first, with_leaf};
 ghost use Rattle.ak_pool.specs.declared.pool.Frame.{Frame};
-ghost use Rattle.ak_tree.specs.Later.{Becomes};
+ghost use Rattle.ak_tree.specs.Later.{KeepsOrigins};
 ghost use Rattle.ak_meta.specs.Leaves.{leaves_at};
 ghost use Rattle.ak_tree.specs.Standing.{Holds, KeepsWorn, IsReady, IsClosedFor, OpensLevel, last_known};
 ghost use Rattle.ak_tree.specs.Stops.{HasTreeStops, OnMemory, OnWorn, IsWornBy};
@@ -69,7 +69,7 @@ impl Forest {
         ensures ready { OnOk result (IsReady D.tells self.new (D.state disk.new)) }
         ensures names { names_of self.new.meta.series ≡ names_of self.old.meta.series }
         ensures limits { self.new.meta.limits ≡ self.old.meta.limits }
-        ensures becomes { OnOk result (Becomes self.old.meta self.new.meta) }
+        ensures becomes { D.tells → OnOk result (KeepsOrigins (D.state disk.old) (D.state disk.new) self.old.meta self.new.meta) }
         ensures others { (n : ℕ) → get_or self.old.frames n None ≡ None → OnOk result (get_or self.new.frames n None ≡ None) }
         ensures fewer { OnOk result (suc (length self.new.pool.used) ≡ length self.old.pool.used) }
         ensures last { (n : ℕ) → OnOk result (last_known self.new n ≡ last_known self.old n) }
@@ -97,7 +97,7 @@ impl Forest {
         ensures ready { OnOk result (IsReady D.tells self.new (D.state disk.new)) }
         ensures names { names_of self.new.meta.series ≡ names_of self.old.meta.series }
         ensures limits { self.new.meta.limits ≡ self.old.meta.limits }
-        ensures becomes { OnOk result (Becomes self.old.meta self.new.meta) }
+        ensures becomes { D.tells → OnOk result (KeepsOrigins (D.state disk.old) (D.state disk.new) self.old.meta self.new.meta) }
         ensures last { (n : ℕ) → OnOk result (last_known self.new n ≡ last_known self.old n) }
         ensures reads { D.tells → (D.state disk.new).reads ≡ (D.state disk.old).reads }
         ensures worn { D.tells → (w : World) → Holds w self.old (D.state disk.old) → OnWorn result (IsWornBy (in_time w)) }
@@ -133,7 +133,7 @@ impl Forest {
         ensures ready { OnOk result (IsReady D.tells self.new (D.state disk.new)) }
         ensures names { names_of self.new.meta.series ≡ names_of self.old.meta.series }
         ensures limits { self.new.meta.limits ≡ self.old.meta.limits }
-        ensures becomes { OnOk result (Becomes self.old.meta self.new.meta) }
+        ensures becomes { D.tells → OnOk result (KeepsOrigins (D.state disk.old) (D.state disk.new) self.old.meta self.new.meta) }
         ensures last { (n most : ℕ) → p.ts ≤ most → IfSome (last_known self.old n) (λ last. last ≤ most) → OnOk result (IfSome (last_known self.new n) (λ last. last ≤ most)) }
         ensures reads { D.tells → (D.state disk.new).reads ≡ (D.state disk.old).reads }
         ensures worn { D.tells → (w : World) → Holds w self.old (D.state disk.old) → OnWorn result (IsWornBy (unless_worn (unless_worn w (made_room series)) (added series p))) }
@@ -176,7 +176,7 @@ impl Forest {
         ensures ready { OnOk result (IsReady D.tells self.new (D.state disk.new)) }
         ensures names { names_of self.new.meta.series ≡ names_of self.old.meta.series }
         ensures limits { self.new.meta.limits ≡ self.old.meta.limits }
-        ensures becomes { OnOk result (Becomes self.old.meta self.new.meta) }
+        ensures becomes { D.tells → OnOk result (KeepsOrigins (D.state disk.old) (D.state disk.new) self.old.meta self.new.meta) }
         // No last timestamp comes to be above one that the point isn't above.
         ensures last { (n most : ℕ) → p.ts ≤ most → IfSome (last_known self.old n) (λ last. last ≤ most) → OnOk result (IfSome (last_known self.new n) (λ last. last ≤ most)) }
         ensures reads { D.tells → (D.state disk.new).reads ≡ (D.state disk.old).reads }

@@ -12,7 +12,7 @@ ghost use Rattle.ak_base.specs.Points.{last_ts_from};
 ghost use Rattle.ak_meta.specs.Contents.{names_of};
 ghost use Rattle.ak_meta.specs.Leaves.{closed_in, leaves_at};
 ghost use Rattle.ak_pool.specs.Frames.{frames_of, leaf_of, without};
-ghost use Rattle.ak_tree.specs.Later.{Becomes};
+ghost use Rattle.ak_tree.specs.Later.{KeepsOrigins};
 ghost use Rattle.ak_tree.specs.Standing.{Holds, KeepsWorn, IsReady, HasPlaces, IsSameButPlaces, OpensLevel, levels_at, last_known};
 ghost use Rattle.ak_tree.specs.Stops.{HasTreeStops, OnMemory, OnWorn, IsWornBy};
 ghost use Rattle.ak_tree.specs.Storing.{LeavesView};
@@ -52,7 +52,7 @@ impl Forest {
         ensures ready { OnOk result (IsReady D.tells self.new (D.state disk.new)) }
         ensures names { names_of self.new.meta.series ≡ names_of self.old.meta.series }
         ensures limits { self.new.meta.limits ≡ self.old.meta.limits }
-        ensures becomes { OnOk result (Becomes self.old.meta self.new.meta) }
+        ensures becomes { D.tells → OnOk result (KeepsOrigins (D.state disk.old) (D.state disk.new) self.old.meta self.new.meta) }
         ensures same { OnOk result (self.new ≡ record self.old { meta = record self.old.meta { ordinals = self.new.meta.ordinals }; check = self.new.check; since = self.new.since }) }
         ensures since { OnOk result (self.new.since ≤ self.old.since) }
         ensures room { OnOk result (newest_fill self.new.meta.ordinals + blocks ≤ self.new.meta.ordinals.blocks) }
@@ -200,7 +200,7 @@ impl Forest {
         ensures ready { OnOk result (IsReady D.tells self.new (D.state disk.new)) }
         ensures names { names_of self.new.meta.series ≡ names_of self.old.meta.series }
         ensures limits { self.new.meta.limits ≡ self.old.meta.limits }
-        ensures becomes { OnOk result (Becomes self.old.meta self.new.meta) }
+        ensures becomes { D.tells → OnOk result (KeepsOrigins (D.state disk.old) (D.state disk.new) self.old.meta self.new.meta) }
         ensures frames { OnOk result (self.new.frames ≡ slice_set self.old.frames series None) }
         ensures fewer { OnOk result (suc (length self.new.pool.used) ≡ length self.old.pool.used) }
         ensures last { (n : ℕ) → OnOk result (last_known self.new n ≡ last_known self.old n) }
@@ -243,7 +243,7 @@ impl Forest {
         ensures ready { OnOk result (IsReady D.tells self.new (D.state disk.new)) }
         ensures names { names_of self.new.meta.series ≡ names_of self.old.meta.series }
         ensures limits { self.new.meta.limits ≡ self.old.meta.limits }
-        ensures becomes { OnOk result (Becomes self.old.meta self.new.meta) }
+        ensures becomes { D.tells → OnOk result (KeepsOrigins (D.state disk.old) (D.state disk.new) self.old.meta self.new.meta) }
         ensures none_open { OnOk result (self.new.pool.used ≡ []) }
         ensures reads { D.tells → (D.state disk.new).reads ≡ (D.state disk.old).reads }
         ensures worn { D.tells → (w : World) → Holds w self.old (D.state disk.old) → OnWorn result (IsWornBy (closed_from (length w.series) 0 w)) }

@@ -2,7 +2,8 @@
 ghost use Rattle.std.specs.Prelude.{◌≡◌, ◌+◌, ◌-◌, ◌*◌, ◌<◌, ◌≤◌, ◌^◌, ◌++◌, ◌∷◌, [], ℕ, false, true, length, get_or, None, bytes_eq, IfOk, OnOk, OnErr, IfErr, MatchOption};
 ghost use Rattle.std.specs.List.{list_any};
 ghost use Rattle.ak_base.specs.Points.{last_ts_from};
-ghost use Rattle.ak_meta.specs.Contents.{IsMeta, IsCanonical, size_of, names_of};
+ghost use Rattle.ak_meta.specs.Contents.{Content, IsMeta, IsCanonical, size_of, names_of};
+ghost use Rattle.ak_image.specs.Blocks.{Seen};
 ghost use Rattle.ak_image.specs.Planted.{AreAllLawful};
 ghost use Rattle.ak_levels.specs.Entries.{AreLawful};
 ghost use Rattle.ak_levels.specs.Pending.{no_lists};
@@ -115,7 +116,7 @@ impl Forest {
         requires canonical { IsCanonical name.now }
         requires new { list_any (λ n. bytes_eq name.now n) (names_of self.old.meta.series) ≡ false }
         ensures ok { OnOk result (self.new ≡ record self.old { meta = with_series self.old.meta name.now; frames = self.old.frames ++ None ∷ []; levels = self.old.levels ++ no_lists ∷ [] }) }
-        ensures becomes { OnOk result (Becomes self.old.meta self.new.meta) }
+        ensures becomes { (seen : Seen) (found : Content) → Becomes seen found self.old.meta → OnOk result (Becomes seen found self.new.meta) }
         ensures number { IfOk result (λ n. n ≡ length self.old.meta.series) }
         ensures few { IfOk result (λ n. n < 2 ^ 32 - 1) }
         ensures room { OnOk result (16 + size_of (with_series self.old.meta name.now) ≤ 4096 * self.old.meta.limits.slot) }
@@ -196,7 +197,6 @@ impl Forest {
         ensures levels { result.levels.now ≡ levels_at self.now series }
         ensures tail { MatchOption result.tail (get_or self.now.frames series None ≡ None) (λ leaf. leaf.now ≡ leaf_in self.now.pool (get_or self.now.frames series None)) }
         ensures lawful { AreLawful (leaves_at self.now.meta.series series) (levels_at self.now series) }
-        ensures most { leaves_at self.now.meta.series series ≤ 2 ^ 52 }
     {
         Entry {
             series,

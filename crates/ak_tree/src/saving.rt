@@ -1,9 +1,10 @@
 //! Takes views, and begins ordinals.
 ghost use Rattle.std.specs.Prelude.{◌≡◌, ◌+◌, ◌-◌, ◌<◌, ◌≤◌, ◌^◌, ℕ, List, true, OnOk};
+ghost use Rattle.ak_gate.specs.Fits.{SameElsewhere};
 ghost use Rattle.ak_host.specs.Moments.{DiskPasses};
 ghost use Rattle.ak_levels.specs.Pending.{Lists};
 ghost use Rattle.ak_meta.specs.Contents.{names_of};
-ghost use Rattle.ak_tree.specs.Later.{Becomes};
+ghost use Rattle.ak_tree.specs.Later.{KeepsOrigins};
 ghost use Rattle.ak_tree.specs.Standing.{Holds, KeepsWorn, IsReady};
 ghost use Rattle.ak_tree.specs.Stops.{HasTreeStops, OnMemory, OnWorn, IsWornBy};
 ghost use Rattle.ak_tree.specs.Storing.{IsStored, LeavesView, LeavesSaved};
@@ -53,6 +54,7 @@ impl Forest {
         // Behind the greatest number nothing is done.
         ensures last { 2 ^ 64 - 1 ≤ self.old.check.number → disk.new ≡ disk.old }
         ensures still { OnWorn result (λ stop. self.new ≡ self.old) }
+        ensures elsewhere { D.tells → SameElsewhere (D.state disk.old).files (D.state disk.new).files }
         ensures worn { OnWorn result (λ stop. (self.old.check.number ≡ 2 ^ 64 - 1)
             × (stop ≡ Stop.Worn (newest self.old.meta.ordinals) (newest_fill self.old.meta.ordinals) self.old.check.number)) }
         ensures reads { D.tells → (D.state disk.new).reads ≡ (D.state disk.old).reads }
@@ -84,7 +86,7 @@ impl Forest {
         ensures ready { OnOk result (IsReady D.tells self.new (D.state disk.new)) }
         ensures names { names_of self.new.meta.series ≡ names_of self.old.meta.series }
         ensures limits { self.new.meta.limits ≡ self.old.meta.limits }
-        ensures becomes { OnOk result (Becomes self.old.meta self.new.meta) }
+        ensures becomes { D.tells → OnOk result (KeepsOrigins (D.state disk.old) (D.state disk.new) self.old.meta self.new.meta) }
         ensures same { OnOk result (self.new ≡ record self.old { check = self.new.check; since = 0 }) }
         ensures reads { D.tells → (D.state disk.new).reads ≡ (D.state disk.old).reads }
         ensures worn { D.tells → (w : World) → Holds w self.old (D.state disk.old) → OnWorn result (IsWornBy (after_view w)) }
@@ -110,6 +112,7 @@ impl Forest {
         ensures ready { OnOk result (IsReady D.tells self.new (D.state disk.new)) }
         ensures names { names_of self.new.meta.series ≡ names_of self.old.meta.series }
         ensures limits { self.new.meta.limits ≡ self.old.meta.limits }
+        ensures becomes { D.tells → OnOk result (KeepsOrigins (D.state disk.old) (D.state disk.new) self.old.meta self.new.meta) }
         ensures same { OnOk result (self.new ≡ record self.old { meta = record self.old.meta { ordinals = switched self.old.meta.ordinals }; check = self.new.check; since = 0 }) }
         ensures reads { D.tells → (D.state disk.new).reads ≡ (D.state disk.old).reads }
         ensures worn { D.tells → (w : World) → Holds w self.old (D.state disk.old) → OnWorn result (IsWornBy (switch w)) }

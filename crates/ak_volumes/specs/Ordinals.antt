@@ -1,5 +1,5 @@
 -- Ordinals count the uses of volumes from 0. Those that are live have a fill each: how many of their blocks are used.
-use Rattle.std.specs.Prelude.{ℕ, ◌+◌, ◌-◌, ◌*◌, ◌/◌, ◌%◌, ◌^◌, ◌<◌, ◌≤◌, List, [], ◌∷◌, ◌++◌, length, drop, slice_index, slice_set, nat_lt, if◌then◌else◌}
+use Rattle.std.specs.Prelude.{ℕ, ◌≡◌, ◌+◌, ◌-◌, ◌*◌, ◌/◌, ◌%◌, ◌^◌, ◌<◌, ◌≤◌, List, [], ◌∷◌, ◌++◌, length, drop, slice_index, slice_set, nat_lt, if◌then◌else◌}
 use Rattle.std.specs.List.{AllByRecursion}
 
 -- the live ordinals from lo on by their fills, that of lo first
@@ -51,9 +51,12 @@ pub record IsLive (o : Ordinals) (a : ℕ) : Type 0 where
   pub ordinal : IsLiveOrdinal o (ordinal_of a)
   pub index : index_of a < fill_of o (ordinal_of a)
 
--- the file in which a live ordinal stands
+-- the file in which an ordinal stands, of so many volumes
+abbrev pub file_in : ℕ → ℕ → ℕ
+file_in volumes ordinal = 1 + ordinal % volumes
+
 abbrev pub file_of : Ordinals → ℕ → ℕ
-file_of o ordinal = 1 + ordinal % o.volumes
+file_of o ordinal = file_in o.volumes ordinal
 
 -- The fill of the newest ordinal grows.
 abbrev pub filled : Ordinals → ℕ → Ordinals
@@ -65,3 +68,10 @@ switched o =
     if nat_lt o.volumes (length o.fills + 1)
     then record o { lo = o.lo + 1; fills = drop 1 o.fills ++ 0 ∷ [] }
     else record o { fills = o.fills ++ 0 ∷ [] }
+
+-- The number and the size of volumes stay. Ordinals may begin, of which those that are still live hold at least what they held.
+pub record HasGrown (old new : Ordinals) : Type 0 where
+  pub volumes : new.volumes ≡ old.volumes
+  pub blocks : new.blocks ≡ old.blocks
+  pub lo : old.lo ≤ new.lo
+  pub live : (a : ℕ) → IsLive old a → new.lo ≤ ordinal_of a → IsLive new a

@@ -10,16 +10,16 @@ use Rattle.ak_node.specs.Pieces.{InAnswer, LeavesInAnswer}
 use Rattle.ak_node.specs.Standing.{Holds}
 use Rattle.ak_node.proofs.Answering.{holds_asked, reply_part, refused_bytes}
 use Rattle.ak_node.proofs.Staying.{holds_after_ports, ready_after_ports, ok_is}
-use Rattle.ak_tree.proofs.Becoming.{becomes_same}
+use Rattle.ak_tree.proofs.Becoming.{origins_same}
 use Rattle.ak_node.proofs.answers.answer.Goals as goal
 
 pub returns-in-Refused-clause-stops : goal.returns-in-Refused-clause-stops
-returns-in-Refused-clause-stops g c = c.refuse.ensures.stops _ _
+returns-in-Refused-clause-stops g c = c.refuse.ensures.stops _
 
 pub returns-in-Refused-clause-ready : goal.returns-in-Refused-clause-ready
 returns-in-Refused-clause-ready g c =
     ok_is c.refuse.result (ready_after_ports g.H.Outside.tells c.args.keeper.now (g.H.Outside.state c.args.host.now) (g.H.Outside.state c.refuse.new.host) c.requires.ready
-    (c.refuse.ensures.stops c.args.keeper.now.forest.meta c.args.keeper.now.forest.meta).sizes c.refuse.ensures.files (λ told. ports_leave (c.refuse.ensures.moments told)))
+    (c.refuse.ensures.stops c.args.keeper.now.forest.meta).sizes c.refuse.ensures.files (λ told. ports_leave (c.refuse.ensures.moments told)))
 
 pub returns-in-Refused-clause-after : goal.returns-in-Refused-clause-after
 returns-in-Refused-clause-after g c told content holds =
@@ -35,4 +35,4 @@ returns-in-Refused-clause-moments g c told content holds =
     (refused_bytes c.args.port content c.in-Refused.refusal holds.keeps.not_worn) c.args.keeper.now holds (c.refuse.ensures.moments told))
 
 pub returns-in-Refused-clause-becomes : goal.returns-in-Refused-clause-becomes
-returns-in-Refused-clause-becomes g c = ok_is c.refuse.result (becomes_same c.args.keeper.now.forest.meta)
+returns-in-Refused-clause-becomes g c told = ok_is c.refuse.result (origins_same (g.H.Outside.state c.args.host.now) (g.H.Outside.state c.refuse.new.host) c.args.keeper.now.forest.meta (c.refuse.ensures.files told))

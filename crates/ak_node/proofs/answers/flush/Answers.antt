@@ -6,6 +6,7 @@ use Rattle.ak_world.specs.Steps.{flushed}
 use Rattle.ak_node.proofs.Answering.{holds_asked, disk_part, told_asked, reply_part, flush_bytes}
 use Rattle.ak_node.proofs.Staying.{holds_after_ports, ready_after_ports, ok_is}
 use Rattle.ak_node.proofs.Stopping.{stops_on}
+use Rattle.ak_tree.proofs.Becoming.{origins_same}
 use Rattle.std.proofs.lemmas.Result.{on_ok_weaker}
 use Rattle.ak_node.proofs.answers.flush.Goals as goal
 
@@ -13,11 +14,11 @@ pub returns-in_err-flush-clause-moments : goal.returns-in_err-flush-clause-momen
 returns-in_err-flush-clause-moments g c told content holds = disk_part c.args.port content Flush holds.keeps.not_worn (c.flush.ensures.moments told content holds)
 
 pub returns-clause-stops : goal.returns-clause-stops
-returns-clause-stops g c = stops_on _ _ _ _ _ _ _ c.flush.result c.tell.result c.flush.ensures.stops (c.tell.ensures.stops _ _)
+returns-clause-stops g c = stops_on _ _ c.flush.new.self.forest.meta _ _ _ c.flush.result c.tell.result c.flush.ensures.stops c.in_ok-flush.ensures.becomes (c.tell.ensures.stops c.flush.new.self.forest.meta)
 
 pub returns-clause-ready : goal.returns-clause-ready
 returns-clause-ready g c =
-    ok_is c.tell.result (ready_after_ports g.H.Outside.tells c.flush.new.self (g.H.Outside.state c.flush.new.disk) (g.H.Outside.state c.tell.new.host) c.in_ok-flush.ensures.ready (c.tell.ensures.stops c.flush.new.self.forest.meta c.flush.new.self.forest.meta).sizes c.tell.ensures.files
+    ok_is c.tell.result (ready_after_ports g.H.Outside.tells c.flush.new.self (g.H.Outside.state c.flush.new.disk) (g.H.Outside.state c.tell.new.host) c.in_ok-flush.ensures.ready (c.tell.ensures.stops c.flush.new.self.forest.meta).sizes c.tell.ensures.files
     (λ told. ports_leave (c.tell.ensures.moments told)))
 
 pub returns-clause-after : goal.returns-clause-after
@@ -38,4 +39,6 @@ returns-clause-moments g c told content holds =
     reply_part c.args.port content Flush holds.keeps.not_worn (c.flush.ensures.moments told content holds) ok_reply (flush_bytes c.args.port content holds.keeps.not_worn next.keeps.not_worn) c.flush.new.self next (c.tell.ensures.moments told)
 
 pub returns-clause-becomes : goal.returns-clause-becomes
-returns-clause-becomes g c = ok_is c.tell.result c.in_ok-flush.ensures.becomes
+returns-clause-becomes g c told =
+    let answered = origins_same (g.H.Outside.state c.flush.new.disk) (g.H.Outside.state c.tell.new.host) c.flush.new.self.forest.meta (c.tell.ensures.files told) in
+    ok_is c.tell.result (λ found was. answered found (c.in_ok-flush.ensures.becomes told found was))

@@ -8,14 +8,15 @@ use Rattle.ak_world.specs.Puts.{after_points}
 use Rattle.ak_node.proofs.Answering.{holds_asked, told_asked, told_none, reply_part, points_bytes}
 use Rattle.ak_node.proofs.Staying.{holds_after_ports, ready_after_ports, ok_is}
 use Rattle.ak_node.proofs.Stopping.{stops_on}
+use Rattle.ak_tree.proofs.Becoming.{origins_same}
 use Rattle.ak_node.proofs.answers.points.Goals as goal
 
 pub returns-in-Some-clause-stops : goal.returns-in-Some-clause-stops
-returns-in-Some-clause-stops g c = stops_on _ _ _ _ _ _ _ c.put.result c.refuse.result c.put.ensures.stops (c.refuse.ensures.stops _ _)
+returns-in-Some-clause-stops g c = stops_on _ _ c.put.new.keeper.forest.meta _ _ _ c.put.result c.refuse.result c.put.ensures.stops c.in_ok-refusal.ensures.becomes (c.refuse.ensures.stops c.put.new.keeper.forest.meta)
 
 pub returns-in-Some-clause-ready : goal.returns-in-Some-clause-ready
 returns-in-Some-clause-ready g c =
-    ok_is c.refuse.result (ready_after_ports g.H.Outside.tells c.put.new.keeper (g.H.Outside.state c.put.new.disk) (g.H.Outside.state c.refuse.new.host) c.in_ok-refusal.ensures.ready (c.refuse.ensures.stops c.put.new.keeper.forest.meta c.put.new.keeper.forest.meta).sizes c.refuse.ensures.files
+    ok_is c.refuse.result (ready_after_ports g.H.Outside.tells c.put.new.keeper (g.H.Outside.state c.put.new.disk) (g.H.Outside.state c.refuse.new.host) c.in_ok-refusal.ensures.ready (c.refuse.ensures.stops c.put.new.keeper.forest.meta).sizes c.refuse.ensures.files
     (λ told. ports_leave (c.refuse.ensures.moments told)))
 
 pub returns-in-Some-clause-after : goal.returns-in-Some-clause-after
@@ -44,4 +45,6 @@ returns-in-None-clause-told g c told content holds =
     (points_bytes c.args.port content c.args.names.now c.args.time c.args.values.now None holds.keeps.not_worn (sym c.in-None.is ∙ c.in_ok-refusal.ensures.refusal content holds.keeps))
 
 pub returns-in-Some-clause-becomes : goal.returns-in-Some-clause-becomes
-returns-in-Some-clause-becomes g c = ok_is c.refuse.result c.in_ok-refusal.ensures.becomes
+returns-in-Some-clause-becomes g c told =
+    let answered = origins_same (g.H.Outside.state c.put.new.disk) (g.H.Outside.state c.refuse.new.host) c.put.new.keeper.forest.meta (c.refuse.ensures.files told) in
+    ok_is c.refuse.result (λ found was. answered found (c.in_ok-refusal.ensures.becomes told found was))

@@ -7,7 +7,7 @@ use Rattle.ak_run.specs.Replies.{bulk_reply, rows_of}
 use Rattle.ak_node.proofs.Answering.{holds_asked, disk_part, told_asked, reply_part, rows_bytes, reads_leave}
 use Rattle.ak_node.proofs.Staying.{holds_after_ports, ready_after_ports, ok_is}
 use Rattle.ak_node.proofs.Stopping.{stops_on}
-use Rattle.ak_tree.proofs.Becoming.{becomes_it}
+use Rattle.ak_tree.proofs.Becoming.{origins_same, origins_it}
 use Rattle.ak_tree.specs.Standing.{Trees}
 use Rattle.ak_node.proofs.answers.rows.Goals as goal
 
@@ -17,12 +17,15 @@ returns-in_err-write_metric-clause-moments g c told content holds =
     disk_part c.args.port content (Rows c.args.metric.now) holds.keeps.not_worn (reads_leave content c.args.keeper.now old (g.H.Outside.state c.write_metric.new.disk) holds (c.write_metric.ensures.moments told))
 
 pub returns-in-Ok-clause-stops : goal.returns-in-Ok-clause-stops
-returns-in-Ok-clause-stops g c = stops_on _ _ _ _ _ _ _ c.write_metric.result c.tell.result c.write_metric.ensures.stops (c.tell.ensures.stops _ _)
+returns-in-Ok-clause-stops g c =
+    let meta = c.args.keeper.now.forest.meta in
+    stops_on _ _ meta _ _ _ c.write_metric.result c.tell.result c.write_metric.ensures.stops (λ told. origins_same (g.H.Outside.state c.args.host.now) (g.H.Outside.state c.write_metric.new.disk) meta (c.write_metric.ensures.files told))
+    (c.tell.ensures.stops meta)
 
 pub returns-in-Ok-clause-ready : goal.returns-in-Ok-clause-ready
 returns-in-Ok-clause-ready g c =
     ok_is c.tell.result (ready_after_ports g.H.Outside.tells c.write_metric.new.keeper (g.H.Outside.state c.write_metric.new.disk) (g.H.Outside.state c.tell.new.host) c.write_metric.ensures.ready
-    (c.tell.ensures.stops c.args.keeper.now.forest.meta c.write_metric.new.keeper.forest.meta).sizes c.tell.ensures.files (λ told. ports_leave (c.tell.ensures.moments told)))
+    (c.tell.ensures.stops c.args.keeper.now.forest.meta).sizes c.tell.ensures.files (λ told. ports_leave (c.tell.ensures.moments told)))
 
 pub returns-in-Ok-clause-after : goal.returns-in-Ok-clause-after
 returns-in-Ok-clause-after g c told content holds =
@@ -57,9 +60,6 @@ returns-clause-moments g c told content holds =
     disk_part c.args.port content (Rows c.args.metric.now) holds.keeps.not_worn (reads_leave content c.args.keeper.now old (g.H.Outside.state c.write_metric.new.disk) holds (c.write_metric.ensures.moments told))
 
 pub returns-in-Ok-clause-becomes : goal.returns-in-Ok-clause-becomes
-returns-in-Ok-clause-becomes g c = ok_is c.tell.result (becomes_it _ _ (ap (λ (t : Trees). t.meta) c.write_metric.ensures.forest))
-
-pub returns-in_err-write_metric-clause-stops : goal.returns-in_err-write_metric-clause-stops
-returns-in_err-write_metric-clause-stops g c =
-    let same : c.write_metric.new.keeper.forest ≡ c.args.keeper.now.forest = c.write_metric.ensures.forest in
-    rw same (let stops = c.in_err-write_metric.ensures.stops in search rules)
+returns-in-Ok-clause-becomes g c told =
+    ok_is c.tell.result (origins_it (g.H.Outside.state c.args.host.now) (g.H.Outside.state c.tell.new.host) c.args.keeper.now.forest.meta c.write_metric.new.keeper.forest.meta (ap (λ (t : Trees). t.meta) c.write_metric.ensures.forest)
+    (c.tell.ensures.files told ∙ c.write_metric.ensures.files told))

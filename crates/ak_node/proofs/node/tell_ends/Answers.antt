@@ -6,6 +6,7 @@ use Rattle.ak_run.specs.Sessions.{Session as Stream}
 use Rattle.ak_node.specs.Standing.{AfterEnds}
 use Rattle.ak_node.proofs.Sessions.{same_length}
 use Rattle.ak_node.proofs.Stopping.{stops_on}
+use Rattle.ak_tree.proofs.Becoming.{origins_same}
 use Rattle.ak_node.proofs.Turns.{some_port, ends_step, ends_within}
 use Rattle.ak_node.proofs.node.tell_ends.Goals as goal
 
@@ -21,15 +22,17 @@ pub returns-in_err-tell_end-clause-leaves : goal.returns-in_err-tell_end-clause-
 returns-in_err-tell_end-clause-leaves g c told disk left = c.loop-session.invariant.leaves told disk (c.tell_end.ensures.leaves told disk left)
 
 pub returns-in_err-tell_end-clause-stops : goal.returns-in_err-tell_end-clause-stops
-returns-in_err-tell_end-clause-stops g c was now =
-    let stops = stops_on _ _ _ _ _ _ _ _ _ (c.loop-session.invariant.stops was now) (c.in_err-tell_end.ensures.stops was now) in
+returns-in_err-tell_end-clause-stops g c was =
+    let stops = stops_on _ _ _ _ _ _ _ _ (c.loop-session.invariant.stops was)
+    (λ told. origins_same (g.H.Outside.state c.args.host.now) (g.H.Outside.state c.loop-session.host) was (c.loop-session.invariant.files told)) (c.in_err-tell_end.ensures.stops was) in
     search rules
 
 pub loop-session-preserved : goal.loop-session-preserved
 loop-session-preserved g c =
     let some = some_port c.args.sessions.now c.loop-session.session-index c.session-item.result c.requires c.loop-session-test.true c.session-item.is in
     record {
-      stops = λ was now. stops_on _ _ _ _ _ _ _ _ _ (c.loop-session.invariant.stops was now) (c.in_ok-tell_end.ensures.stops was now);
+      stops = λ was. stops_on _ _ _ _ _ _ _ _ (c.loop-session.invariant.stops was)
+          (λ told. origins_same (g.H.Outside.state c.args.host.now) (g.H.Outside.state c.loop-session.host) was (c.loop-session.invariant.files told)) (c.in_ok-tell_end.ensures.stops was);
       silent = λ told. c.tell_end.ensures.silent told some ∙ c.loop-session.invariant.silent told;
       reads = λ told. c.tell_end.ensures.reads told ∙ c.loop-session.invariant.reads told;
       files = λ told. c.tell_end.ensures.files told ∙ c.loop-session.invariant.files told;

@@ -9,7 +9,7 @@ use Rattle.ak_node.proofs.node.tell_ends.Given as goal
 
 abbrev pub invariant-loop-session : goal.invariant-loop-session
 invariant-loop-session g l = record {
-  stops : (was now : Content) → HasStops {T = Unit {0}} g.H.Outside.tells was now (g.H.Outside.state l.fn.host) (g.H.Outside.state l.host) (Ok tt);
+  stops : (was : Content) → HasStops {T = Unit {0}} g.H.Outside.tells was (g.H.Outside.state l.fn.host) (g.H.Outside.state l.host) (Ok tt);
   silent : g.H.Outside.tells → IsSilent (g.H.Outside.state l.fn.host) (g.H.Outside.state l.host);
   reads : g.H.Outside.tells → (g.H.Outside.state l.host).reads ≡ (g.H.Outside.state l.fn.host).reads;
   files : g.H.Outside.tells → (g.H.Outside.state l.host).files ≡ (g.H.Outside.state l.fn.host).files;

@@ -1,7 +1,6 @@
 use Rattle.std.proofs.Common.{◌∙◌, sym, arith, rules}
 use Rattle.ak_host.proofs.Passing.{disk_goes_on}
 use Rattle.ak_node.proofs.Accepting.{one_accepted, one_worn, one_passes, all_held, none_late, not_late_at, place_kept, has_place}
-use Rattle.ak_tree.proofs.Becoming.{becomes_same, becomes_on}
 use Rattle.ak_node.proofs.puts.accept_all.Goals.{in-Some+in_ok-append, in_default}
 use Rattle.ak_node.proofs.puts.accept_all.Goals as goal
 
@@ -49,7 +48,7 @@ loop-at-preserved g c =
             port_faults = put.stops.port_faults ∙ before.port_faults;
             sizes = put.stops.sizes ∙ before.sizes;
             ready = record { forest = put.ready; names = before.ready.names ∙ sym put.names };
-            becomes = becomes_on before.becomes put.becomes;
+            becomes = λ told found was. put.becomes told found (before.becomes told found was);
             names = before.names;
             none_late = none_late now.forest b.append.new.self now.names names time (λ n was. put.last n time (omega arith) was) before.none_late;
             reads = λ told. put.reads told ∙ before.reads told;
@@ -72,4 +71,4 @@ returns-clause-after g c told content holds =
     all_held content c.args.names.now c.args.time c.args.values.now c.loop-at.at c.loop-at.keeper.forest (g.D.Outside.state c.loop-at.disk) (omega (arith, c.loop-at-test.false)) (c.loop-at.invariant.so_far told content holds)
 
 pub loop-at-init : goal.loop-at-init
-loop-at-init g c = search (rules, becomes_same)
+loop-at-init g c = search rules

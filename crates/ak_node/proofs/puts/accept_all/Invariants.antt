@@ -3,7 +3,7 @@ use Rattle.ak_host.specs.Moments.{DiskPasses}
 use Rattle.ak_node.specs.Names.{late_known}
 use Rattle.ak_node.specs.Standing.{IsReady, Holds}
 use Rattle.ak_node.proofs.Accepting.{AreAccepted}
-use Rattle.ak_tree.specs.Later.{Becomes}
+use Rattle.ak_tree.specs.Later.{KeepsOrigins}
 use Rattle.ak_tree.specs.Storing.{LeavesView}
 use Rattle.ak_world.specs.Puts.{all_accepted}
 use Rattle.ak_world.specs.Worlds.{World}
@@ -15,7 +15,7 @@ invariant-loop-at g l = record {
   port_faults : (g.D.Outside.state l.disk).port_faults ≡ (g.D.Outside.state l.fn.disk).port_faults;
   sizes : (g.D.Outside.state l.disk).sizes ≡ (g.D.Outside.state l.fn.disk).sizes;
   ready : IsReady g.D.Outside.tells l.keeper (g.D.Outside.state l.disk);
-  becomes : Becomes l.fn.keeper.forest.meta l.keeper.forest.meta;
+  becomes : g.D.Outside.tells → KeepsOrigins (g.D.Outside.state l.fn.disk) (g.D.Outside.state l.disk) l.fn.keeper.forest.meta l.keeper.forest.meta;
   names : l.keeper.names ≡ l.fn.keeper.names;
   none_late : late_known l.keeper.forest l.keeper.names l.names l.time ≡ None;
   reads : g.D.Outside.tells → (g.D.Outside.state l.disk).reads ≡ (g.D.Outside.state l.fn.disk).reads;

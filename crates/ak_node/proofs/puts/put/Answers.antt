@@ -9,13 +9,13 @@ use Rattle.ak_tree.proofs.Telling.{worn_from}
 use Rattle.ak_world.specs.Puts.{named}
 use Rattle.ak_world.specs.Worlds.{World}
 use Rattle.std.specs.Result.{is_err}
-use Rattle.ak_tree.specs.Later.{Becomes}
+use Rattle.ak_host.specs.Moments.{HostState}
+use Rattle.ak_tree.specs.Later.{KeepsOrigins}
 use Rattle.ak_node.specs.Names.{with_all, levels_with}
 use Rattle.ak_node.specs.declared.keeper.Keeper.{Keeper}
-use Rattle.ak_node.proofs.Adding.{becomes_all}
+use Rattle.ak_node.proofs.Adding.{all_keep}
 use Rattle.ak_node.proofs.Stopping.{stops_of}
 use Rattle.ak_tree.specs.Standing.{Trees}
-use Rattle.ak_tree.proofs.Becoming.{becomes_same, becomes_on}
 use Rattle.ak_node.proofs.puts.put.Goals as goal
 
 pub returns-then-need-room-clause-refusal : goal.returns-then-need-room-clause-refusal
@@ -102,30 +102,30 @@ returns-clause-moments g c told content holds =
     let held = put_holds c.args.keeper.now c.add_names.new.keeper c.args.names.now c.args.time c.look_at-need.result.places put content (g.D.Outside.state c.args.disk.now) holds in
     put_passes content c.args.names.now _ _ (g.D.Outside.state c.args.disk.now) (g.D.Outside.state c.accept_all.new.disk) all (c.accept_all.ensures.moments told (named content c.args.names.now) held)
 
-added : {T E : Type 0} (r : Result T E) (is : Bool) (old new : Keeper) (names : List (List ℕ)) → is ≡ is_err r → is ≡ false
-    → OnOk r (new.forest ≡ record old.forest { meta = with_all old.forest.meta names; frames = new.forest.frames; levels = levels_with old.forest.meta old.forest.levels names }) → Becomes old.forest.meta new.forest.meta
-added (Ok v) is old new names value good forest = subst (λ (t : Trees). Becomes old.forest.meta t.meta) (sym forest) (becomes_all names old.forest.meta)
-added (Err e) is old new names value good forest = absurd (false≢true (sym good ∙ value))
+added : {T E : Type 0} (host : HostState) (r : Result T E) (is : Bool) (old new : Keeper) (names : List (List ℕ)) → is ≡ is_err r → is ≡ false
+    → OnOk r (new.forest ≡ record old.forest { meta = with_all old.forest.meta names; frames = new.forest.frames; levels = levels_with old.forest.meta old.forest.levels names }) → KeepsOrigins host host old.forest.meta new.forest.meta
+added host (Ok v) is old new names value good forest = subst (λ (t : Trees). KeepsOrigins host host old.forest.meta t.meta) (sym forest) (all_keep host names old.forest.meta)
+added host (Err e) is old new names value good forest = absurd (false≢true (sym good ∙ value))
 
 pub returns-in_err-accept_all-clause-stops : goal.returns-in_err-accept_all-clause-stops
 returns-in_err-accept_all-clause-stops g c =
-    let named = added c.add_names.result c.is_err.result c.args.keeper.now c.add_names.new.keeper c.args.names.now c.is_err.ensures.value c.if-is_err.false c.add_names.ensures.forest in
-    let stops = stops_of _ _ _ _ _ _ _ named c.in_err-accept_all.ensures.stops in
+    let named = added (g.D.Outside.state c.args.disk.now) c.add_names.result c.is_err.result c.args.keeper.now c.add_names.new.keeper c.args.names.now c.is_err.ensures.value c.if-is_err.false c.add_names.ensures.forest in
+    let stops = stops_of _ _ _ _ _ _ named c.in_err-accept_all.ensures.stops in
     search rules
 
 pub returns-clause-stops : goal.returns-clause-stops
 returns-clause-stops g c =
-    let named = added c.add_names.result c.is_err.result c.args.keeper.now c.add_names.new.keeper c.args.names.now c.is_err.ensures.value c.if-is_err.false c.add_names.ensures.forest in
-    let stops = stops_of _ _ _ _ _ _ _ named c.in_ok-accept_all.ensures.stops in
+    let named = added (g.D.Outside.state c.args.disk.now) c.add_names.result c.is_err.result c.args.keeper.now c.add_names.new.keeper c.args.names.now c.is_err.ensures.value c.if-is_err.false c.add_names.ensures.forest in
+    let stops = stops_of _ _ _ _ _ _ named c.in_ok-accept_all.ensures.stops in
     search rules
 
 pub returns-clause-becomes : goal.returns-clause-becomes
-returns-clause-becomes g c =
-    let named = added c.add_names.result c.is_err.result c.args.keeper.now c.add_names.new.keeper c.args.names.now c.is_err.ensures.value c.if-is_err.false c.add_names.ensures.forest in
-    becomes_on named c.in_ok-accept_all.ensures.becomes
+returns-clause-becomes g c told found was =
+    let named = added (g.D.Outside.state c.args.disk.now) c.add_names.result c.is_err.result c.args.keeper.now c.add_names.new.keeper c.args.names.now c.is_err.ensures.value c.if-is_err.false c.add_names.ensures.forest in
+    c.in_ok-accept_all.ensures.becomes told found (named found was)
 
 pub returns-then-need-room-clause-becomes : goal.returns-then-need-room-clause-becomes
-returns-then-need-room-clause-becomes g c = becomes_same c.args.keeper.now.forest.meta
+returns-then-need-room-clause-becomes g c told found was = was
 
 pub returns-in-Some-clause-becomes : goal.returns-in-Some-clause-becomes
-returns-in-Some-clause-becomes g c = becomes_same c.args.keeper.now.forest.meta
+returns-in-Some-clause-becomes g c told found was = was

@@ -4,7 +4,7 @@ use Rattle.ak_host.proofs.Passing.{ports_leave}
 use Rattle.ak_node.proofs.Staying.{by_moment, holds_after_ports, ready_after_ports}
 use Rattle.ak_node.proofs.Steps.{held, asked_of, asks_held, after_message, after_none, after_kept, after_fault, message_moment, message_leaves, message_wears, message_asks, fault_moment, fault_leaves}
 use Rattle.ak_node.proofs.Stopping.{worn_handed}
-use Rattle.ak_tree.proofs.Becoming.{becomes_same}
+use Rattle.ak_tree.proofs.Becoming.{origins_same}
 use Rattle.ak_node.proofs.reading.advance.Goals as goal
 
 pub returns-in_err-act-in-Ok-Some-clause-worn : goal.returns-in_err-act-in-Ok-Some-clause-worn
@@ -74,14 +74,14 @@ returns-then-session-clause-last g c told begun at _ =
     after_kept begun c.args.piece.now c.args.keeper.now c.args.session.now c.args.at.now c.feed.new.at before host at c.feed.new.self c.in-Err-Refused.field-0 c.in-Err-Refused.ensures.kept c.if-session.true
 
 pub returns-in_err-refuse-in-Err-Refused-clause-stops : goal.returns-in_err-refuse-in-Err-Refused-clause-stops
-returns-in_err-refuse-in-Err-Refused-clause-stops g c = let stops = c.in_err-refuse-in-Err-Refused.ensures.stops c.args.keeper.now.forest.meta c.args.keeper.now.forest.meta in search rules
+returns-in_err-refuse-in-Err-Refused-clause-stops g c = let stops = c.in_err-refuse-in-Err-Refused.ensures.stops c.args.keeper.now.forest.meta in search rules
 
 pub returns-in_ok-refuse-in-Err-Refused-clause-stops : goal.returns-in_ok-refuse-in-Err-Refused-clause-stops
-returns-in_ok-refuse-in-Err-Refused-clause-stops g c = let stops = c.in_ok-refuse-in-Err-Refused.ensures.stops c.args.keeper.now.forest.meta c.args.keeper.now.forest.meta in search rules
+returns-in_ok-refuse-in-Err-Refused-clause-stops g c = let stops = c.in_ok-refuse-in-Err-Refused.ensures.stops c.args.keeper.now.forest.meta in search rules
 
 pub returns-in_ok-refuse-in-Err-Refused-clause-ready : goal.returns-in_ok-refuse-in-Err-Refused-clause-ready
 returns-in_ok-refuse-in-Err-Refused-clause-ready g c =
-    ready_after_ports g.H.Outside.tells c.args.keeper.now (g.H.Outside.state c.args.host.now) (g.H.Outside.state c.refuse.new.host) c.requires.ready (c.refuse.ensures.stops c.args.keeper.now.forest.meta c.args.keeper.now.forest.meta).sizes
+    ready_after_ports g.H.Outside.tells c.args.keeper.now (g.H.Outside.state c.args.host.now) (g.H.Outside.state c.refuse.new.host) c.requires.ready (c.refuse.ensures.stops c.args.keeper.now.forest.meta).sizes
     c.refuse.ensures.files (λ told. ports_leave (c.refuse.ensures.moments told))
 
 pub returns-in_err-refuse-in-Err-Refused-clause-moments : goal.returns-in_err-refuse-in-Err-Refused-clause-moments
@@ -108,10 +108,10 @@ returns-in_ok-refuse-in-Err-Refused-clause-last g c told begun at _ =
     (holds_after_ports (held begun c.args.piece.now c.args.keeper.now c.args.session.now c.args.at.now c.feed.new.at before host at c.feed.new.self) c.args.keeper.now host (g.H.Outside.state c.refuse.new.host) at.holds (c.refuse.ensures.files told) (c.refuse.ensures.moments told))
 
 pub returns-in-Ok-None-clause-becomes : goal.returns-in-Ok-None-clause-becomes
-returns-in-Ok-None-clause-becomes g c = becomes_same c.args.keeper.now.forest.meta
+returns-in-Ok-None-clause-becomes g c told found was = was
 
 pub returns-then-session-clause-becomes : goal.returns-then-session-clause-becomes
-returns-then-session-clause-becomes g c = becomes_same c.args.keeper.now.forest.meta
+returns-then-session-clause-becomes g c told found was = was
 
 pub returns-in_ok-refuse-in-Err-Refused-clause-becomes : goal.returns-in_ok-refuse-in-Err-Refused-clause-becomes
-returns-in_ok-refuse-in-Err-Refused-clause-becomes g c = becomes_same c.args.keeper.now.forest.meta
+returns-in_ok-refuse-in-Err-Refused-clause-becomes g c told = origins_same (g.H.Outside.state c.args.host.now) (g.H.Outside.state c.refuse.new.host) c.args.keeper.now.forest.meta (c.refuse.ensures.files told)

@@ -1,7 +1,6 @@
 use Rattle.std.proofs.Common.{arith, rules, Bool, ◌∙◌}
 use Rattle.ak_host.proofs.Passing.{goes_on}
-use Rattle.ak_node.proofs.Stopping.{worn_handed, stops_behind, stops_of}
-use Rattle.ak_tree.proofs.Becoming.{becomes_same, becomes_on}
+use Rattle.ak_node.proofs.Stopping.{worn_handed, stops_behind}
 use Rattle.ak_node.proofs.reading.read.Goals as goal
 
 pub returns-in_err-advance-clause-reads : goal.returns-in_err-advance-clause-reads
@@ -33,7 +32,7 @@ loop-preserved g c = record {
   sizes = c.advance.ensures.stops.sizes ∙ c.loop.invariant.sizes;
   port = c.advance.ensures.port ∙ c.loop.invariant.port;
   silent = λ told. c.advance.ensures.silent told ∙ c.loop.invariant.silent told;
-  becomes = becomes_on c.loop.invariant.becomes c.in_ok-advance.ensures.becomes;
+  becomes = λ told found was. c.in_ok-advance.ensures.becomes told found (c.loop.invariant.becomes told found was);
   ready = c.in_ok-advance.ensures.ready;
   reads = λ told begun at. c.in_ok-advance.ensures.more told begun (c.loop.invariant.reads told begun at) (search rules);
   queries = λ told begun at none. c.advance.ensures.reads told begun (c.loop.invariant.reads told begun at) none ∙ c.loop.invariant.queries told begun at none;
@@ -41,7 +40,7 @@ loop-preserved g c = record {
 }
 
 pub loop-init : goal.loop-init
-loop-init g c = search (rules, becomes_same)
+loop-init g c = search rules
 
 pub returns-in_err-advance-clause-stops : goal.returns-in_err-advance-clause-stops
 returns-in_err-advance-clause-stops g c =
@@ -49,8 +48,7 @@ returns-in_err-advance-clause-stops g c =
     let old = g.H.Outside.state c.args.host.now in
     let mid = g.H.Outside.state c.loop.host in
     let new = g.H.Outside.state c.advance.new.host in
-    let ended = stops_of g.H.Outside.tells c.args.keeper.now.forest.meta c.loop.keeper.forest.meta c.advance.new.keeper.forest.meta mid new _ before.becomes c.in_err-advance.ensures.stops in
-    let stops = stops_behind g.H.Outside.tells c.args.keeper.now.forest.meta c.advance.new.keeper.forest.meta old mid new _ before.disk_later before.port_later before.sizes ended in
+    let stops = stops_behind g.H.Outside.tells c.args.keeper.now.forest.meta c.loop.keeper.forest.meta old mid new _ before.disk_later before.port_later before.sizes before.becomes c.in_err-advance.ensures.stops in
     search rules
 
 pub returns-then-not-branch-clause-stops : goal.returns-then-not-branch-clause-stops
@@ -59,9 +57,8 @@ returns-then-not-branch-clause-stops g c =
     let old = g.H.Outside.state c.args.host.now in
     let mid = g.H.Outside.state c.loop.host in
     let new = g.H.Outside.state c.advance.new.host in
-    let ended = stops_of g.H.Outside.tells c.args.keeper.now.forest.meta c.loop.keeper.forest.meta c.advance.new.keeper.forest.meta mid new _ before.becomes c.in_ok-advance.ensures.stops in
-    let stops = stops_behind g.H.Outside.tells c.args.keeper.now.forest.meta c.advance.new.keeper.forest.meta old mid new _ before.disk_later before.port_later before.sizes ended in
+    let stops = stops_behind g.H.Outside.tells c.args.keeper.now.forest.meta c.loop.keeper.forest.meta old mid new _ before.disk_later before.port_later before.sizes before.becomes c.in_ok-advance.ensures.stops in
     search rules
 
 pub returns-then-not-branch-clause-becomes : goal.returns-then-not-branch-clause-becomes
-returns-then-not-branch-clause-becomes g c = becomes_on c.loop.invariant.becomes c.in_ok-advance.ensures.becomes
+returns-then-not-branch-clause-becomes g c told found was = c.in_ok-advance.ensures.becomes told found (c.loop.invariant.becomes told found was)

@@ -4,7 +4,7 @@ use Rattle.ak_node.specs.Calls.{IsSilent}
 use Rattle.ak_node.specs.Pieces.{Begun, ReadsOn, InPiece, LeavesInPiece}
 use Rattle.ak_node.specs.Queries.{AreNoQueries}
 use Rattle.ak_node.specs.Standing.{IsReady}
-use Rattle.ak_tree.specs.Later.{Becomes}
+use Rattle.ak_tree.specs.Later.{KeepsOrigins}
 use Rattle.ak_node.proofs.reading.read.Given as goal
 
 abbrev pub invariant-loop : goal.invariant-loop
@@ -15,7 +15,7 @@ invariant-loop g l = record {
   sizes : (g.H.Outside.state l.host).sizes ≡ (g.H.Outside.state l.fn.host).sizes;
   port : l.session.port ≡ l.fn.session.port;
   silent : g.H.Outside.tells → IsSilent (g.H.Outside.state l.fn.host) (g.H.Outside.state l.host);
-  becomes : Becomes l.fn.keeper.forest.meta l.keeper.forest.meta;
+  becomes : g.H.Outside.tells → KeepsOrigins (g.H.Outside.state l.fn.host) (g.H.Outside.state l.host) l.fn.keeper.forest.meta l.keeper.forest.meta;
   ready : IsReady g.H.Outside.tells l.keeper (g.H.Outside.state l.host);
   reads : g.H.Outside.tells → (begun : Begun) → ReadsOn begun l.fn.keeper l.fn.session begun.stream (mark_now (g.H.Outside.state l.fn.host)) (g.H.Outside.state l.fn.host)
       → ReadsOn begun l.keeper l.session (begun.stream ++ take l.at l.piece) (mark_now (g.H.Outside.state l.host)) (g.H.Outside.state l.host);

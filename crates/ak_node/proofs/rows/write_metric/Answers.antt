@@ -75,4 +75,4 @@ returns-in_err-write_of-clause-stops g c =
     let why = reason_weaker {P = λ file block. tells → IsDamagedLeaf now.meta file block mid.files} {Q = damaged} old mid new c.in_err-write_of.field-0.0 so_far.reads.later
     (λ file block is told. subst (λ (t : Trees). IsDamagedLeaf t.meta file block old.files) so_far.forest (subst (λ (files : Files). IsDamagedLeaf now.meta file block files) (so_far.reads.files told) (is told)))
     c.in_err-write_of.ensures.stops in
-    has_stops tells f.meta old new c.from_residual.result (more_reads so_far.reads c.write_of.ensures.reads) (stop_from (IsReadStop damaged old new) c.from_residual.result c.in_err-write_of.field-0.0 c.from_residual.ensures.1 why)
+    has_stops tells f.meta old new c.from_residual.result c.room.ensures.rules.rules_are.ordinals_are (more_reads so_far.reads c.write_of.ensures.reads) (stop_from (IsReadStop damaged old new) c.from_residual.result c.in_err-write_of.field-0.0 c.from_residual.ensures.1 why)

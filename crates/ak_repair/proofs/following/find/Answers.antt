@@ -1,7 +1,7 @@
 use Rattle.std.proofs.Common.{ℕ, ◌≡◌, sym, subst}
 use Rattle.std.specs.Result.{IfErr}
 use Rattle.ak_image.specs.Blocks.{seen_in}
-use Rattle.ak_repair.specs.Follows.{IsNoNode}
+use Rattle.ak_image.specs.Named.{IsNoNode}
 use Rattle.ak_repair.specs.Reads.{IsReadStop}
 use Rattle.ak_volumes.specs.Ordinals.{ordinal_of, index_of, file_of}
 use Rattle.ak_repair.proofs.following.find.Goals as goal

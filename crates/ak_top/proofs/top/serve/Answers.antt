@@ -5,9 +5,8 @@ use Rattle.ak_node.specs.declared.node.Went.{Went}
 use Rattle.ak_node.specs.declared.node.Went.TheVariants as went
 use Rattle.ak_top.specs.Calls.{AfterWhole}
 use Rattle.ak_top.proofs.Runs.{running_starts, turn_passes, running_on, ends_done, ends_kept, ends_fresh, wears_run, spent_complete, spent_all, spent_fresh}
-use Rattle.ak_top.proofs.Stopping.{worn_on, node_later}
-use Rattle.ak_node.proofs.Stopping.{stop_of}
-use Rattle.ak_tree.proofs.Becoming.{becomes_same, becomes_on}
+use Rattle.ak_top.proofs.Stopping.{worn_on}
+use Rattle.ak_node.proofs.Stopping.{stop_before}
 use Rattle.ak_top.proofs.top.serve.Goals as goal
 
 pub loop-turn-init : goal.loop-turn-init
@@ -16,7 +15,7 @@ loop-turn-init g c = record {
   port_later = omega arith;
   silent = λ told. refl;
   fresh = c.requires.free;
-  becomes = becomes_same c.args.node.keeper.forest.meta;
+  becomes = λ told found was. was;
   ready = c.requires.ready;
   running = λ told view stands. running_starts view (mark_now (g.H.Outside.state c.args.host.now)) c.args.node (g.H.Outside.state c.args.host.now) stands;
   moments = λ told view stands. nothing_passes _ _ (g.H.Outside.state c.args.host.now);
@@ -28,7 +27,7 @@ loop-turn-preserved g c = record {
   port_later = omega (arith, c.take_turn.ensures.stops.port_later, c.loop-turn.invariant.port_later);
   silent = λ told. c.take_turn.ensures.silent told ∙ c.loop-turn.invariant.silent told;
   fresh = c.in-Ok-More.ensures.free;
-  becomes = becomes_on c.loop-turn.invariant.becomes c.in-Ok-More.ensures.becomes;
+  becomes = λ told found was. c.in-Ok-More.ensures.becomes told found (c.loop-turn.invariant.becomes told found was);
   ready = c.in-Ok-More.ensures.ready;
   running = λ told view stands.
       let r = c.loop-turn.invariant.running told view stands in
@@ -111,19 +110,11 @@ pub returns-in-Err-clause-cause : goal.returns-in-Err-clause-cause
 returns-in-Err-clause-cause g c =
     let stops = c.in-Err.ensures.stops in
     let before = c.loop-turn.invariant in
-    let was = c.args.node.keeper.forest.meta in
-    let now = c.take_turn.new.node.keeper.forest.meta in
-    let old = g.H.Outside.state c.args.host.now in
-    let mid = g.H.Outside.state c.loop-turn.host in
-    let new = g.H.Outside.state c.take_turn.new.host in
     record {
       disk_later = omega (arith, stops.disk_later, before.disk_later);
       port_later = omega (arith, stops.port_later, before.port_later);
-      stops = inl (
-        now,
-        node_later g.H.Outside.tells was now old mid new c.in-Err.stop before.disk_later before.port_later
-            (stop_of g.H.Outside.tells was c.loop-turn.node.keeper.forest.meta now mid new c.in-Err.stop before.becomes stops.stops),
-      );
+      stops = inl (stop_before g.H.Outside.tells c.args.node.keeper.forest.meta c.loop-turn.node.keeper.forest.meta (g.H.Outside.state c.args.host.now) (g.H.Outside.state c.loop-turn.host) (g.H.Outside.state c.take_turn.new.host) c.in-Err.stop
+          before.disk_later before.port_later before.becomes stops.stops);
     }
 
 pub returns-in-Err-clause-sound : goal.returns-in-Err-clause-sound

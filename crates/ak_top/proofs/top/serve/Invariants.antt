@@ -7,7 +7,7 @@ use Rattle.ak_run.specs.Run.{world_of}
 use Rattle.ak_node.specs.Standing.{CanServe, Stands}
 use Rattle.ak_top.specs.Told.{IsQuiet}
 use Rattle.ak_top.proofs.Runs.{Running}
-use Rattle.ak_tree.specs.Later.{Becomes}
+use Rattle.ak_tree.specs.Later.{KeepsOrigins}
 use Rattle.ak_top.proofs.top.serve.Given as goal
 
 abbrev pub invariant-loop-turn : goal.invariant-loop-turn
@@ -16,7 +16,7 @@ invariant-loop-turn g l = record {
   port_later : (g.H.Outside.state l.fn.host).port_faults ≤ (g.H.Outside.state l.host).port_faults;
   silent : g.H.Outside.tells → IsSilent (g.H.Outside.state l.fn.host) (g.H.Outside.state l.host);
   fresh : l.node.stop ≡ None;
-  becomes : Becomes l.fn.node.keeper.forest.meta l.node.keeper.forest.meta;
+  becomes : g.H.Outside.tells → KeepsOrigins (g.H.Outside.state l.fn.host) (g.H.Outside.state l.host) l.fn.node.keeper.forest.meta l.node.keeper.forest.meta;
   ready : CanServe g.H.Outside.tells l.node (g.H.Outside.state l.host);
   running : g.H.Outside.tells → (view : View) → Stands l.fn.node (world_of view) (g.H.Outside.state l.fn.host)
       → Running view (mark_now (g.H.Outside.state l.fn.host)) (mark_now (g.H.Outside.state l.host)) l.node (g.H.Outside.state l.host) l._turn;

@@ -6,8 +6,7 @@ use Rattle.ak_node.specs.Standing.{AfterTurn, InAct}
 use Rattle.ak_node.specs.declared.node.Went.{Went}
 use Rattle.ak_top.proofs.Stopping.{worn_handed}
 use Rattle.ak_top.proofs.Taking.{whole_more, has_taken, act_starts, finish_passes, finish_wears, finish_after}
-use Rattle.ak_node.proofs.Stopping.{stops_on, stops_of}
-use Rattle.ak_tree.proofs.Becoming.{becomes_on}
+use Rattle.ak_node.proofs.Stopping.{stops_on}
 use Rattle.ak_top.proofs.top.take_turn.Goals as goal
 
 pub returns-in_err-finish-in-Done-clause-worn : goal.returns-in_err-finish-in-Done-clause-worn
@@ -58,15 +57,13 @@ returns-in_ok-finish-in-Done-clause-moments g c told world stands =
 
 pub returns-in_err-finish-in-Done-clause-stops : goal.returns-in_err-finish-in-Done-clause-stops
 returns-in_err-finish-in-Done-clause-stops g c =
-    let ended = stops_of _ _ _ _ _ _ _ c.in_ok-turn.ensures.becomes (c.in_err-finish-in-Done.ensures.stops (c.in_ok-turn.ensures.fresh)) in
-    let stops = stops_on _ _ _ _ _ _ _ _ _ (c.in_ok-turn.ensures.stops c.requires.free) ended in
+    let stops = stops_on _ _ _ _ _ _ _ _ (c.in_ok-turn.ensures.stops c.requires.free) c.in_ok-turn.ensures.becomes (c.in_err-finish-in-Done.ensures.stops c.in_ok-turn.ensures.fresh) in
     search rules
 
 pub returns-in_ok-finish-in-Done-clause-stops : goal.returns-in_ok-finish-in-Done-clause-stops
 returns-in_ok-finish-in-Done-clause-stops g c =
-    let ended = stops_of _ _ _ _ _ _ _ c.in_ok-turn.ensures.becomes (c.in_ok-finish-in-Done.ensures.stops (c.in_ok-turn.ensures.fresh)) in
-    let stops = stops_on _ _ _ _ _ _ _ _ _ (c.in_ok-turn.ensures.stops c.requires.free) ended in
+    let stops = stops_on _ _ _ _ _ _ _ _ (c.in_ok-turn.ensures.stops c.requires.free) c.in_ok-turn.ensures.becomes (c.in_ok-finish-in-Done.ensures.stops c.in_ok-turn.ensures.fresh) in
     search rules
 
 pub returns-in_ok-finish-in-Done-clause-becomes : goal.returns-in_ok-finish-in-Done-clause-becomes
-returns-in_ok-finish-in-Done-clause-becomes g c = becomes_on c.in_ok-turn.ensures.becomes c.in_ok-finish-in-Done.ensures.becomes
+returns-in_ok-finish-in-Done-clause-becomes g c told found was = c.in_ok-finish-in-Done.ensures.becomes told found (c.in_ok-turn.ensures.becomes told found was)

@@ -34,9 +34,11 @@ invariant_of-self c =
     let is : s ≡ get_or all n s = search rules in
     let known : n < length all = subst (λ (v : Content). n < length v.series) (sym c.self.view_is) c.requires.known in
     let whole : slice_set all n c.close_leaf.new.series ≡ with_leaf_at all n c.args.last c.args.at.0 = one_here all n c.args.last c.args.at.0 s _ known is c.close_leaf.ensures in
-    let size : size_of (content c.self.inside.limits c.self.inside.volumes (with_leaf_at all n c.args.last c.args.at.0)) < 2 ^ 64 = omega (arith, c.self.invariant.1, sizes_here all n c.args.last c.args.at.0) in
-    (c.self.invariant.0, subst (λ (l : List SeriesMeta). size_of (content c.self.inside.limits c.self.inside.volumes l) < 2 ^ 64) (sym whole) size,
-      c.self.invariant.2 ∙ sym (subst (λ (l : List SeriesMeta). sum (map (λ (s : SeriesMeta). 106 + length s.name) l) ≡ sum (map (λ (s : SeriesMeta). 106 + length s.name) all)) (sym whole) (sizes_here all n c.args.last c.args.at.0)))
+    let size : size_of (content c.self.inside.limits c.self.inside.volumes (with_leaf_at all n c.args.last c.args.at.0)) < 2 ^ 64 = omega (arith, c.self.invariant.1, sizes_here all n c.args.last c.args.at.0) in (
+      c.self.invariant.0,
+      subst (λ (l : List SeriesMeta). size_of (content c.self.inside.limits c.self.inside.volumes l) < 2 ^ 64) (sym whole) size,
+      c.self.invariant.2 ∙ sym (subst (λ (l : List SeriesMeta). sum (map (λ (s : SeriesMeta). 106 + length s.name) l) ≡ sum (map (λ (s : SeriesMeta). 106 + length s.name) all)) (sym whole) (sizes_here all n c.args.last c.args.at.0)),
+    )
 
 pub returns : goal.returns
 returns c =

@@ -2,7 +2,6 @@ use Rattle.std.proofs.Common.{length}
 use Rattle.ak_node.proofs.Flushing.{closing_passes, flush_passes}
 use Rattle.ak_world.specs.Steps.{closed_from}
 use Rattle.std.proofs.lemmas.Result.{on_ok_weaker}
-use Rattle.ak_tree.proofs.Becoming.{becomes_on}
 use Rattle.ak_node.proofs.keeper.Keeper.flush.Goals as goal
 
 pub returns-in_err-close_all-clause-moments : goal.returns-in_err-close_all-clause-moments
@@ -16,4 +15,4 @@ returns-clause-moments g c told content holds =
     (c.view.ensures.moments told (closed_from (length content.series) 0 content) held)
 
 pub returns-clause-becomes : goal.returns-clause-becomes
-returns-clause-becomes g c = on_ok_weaker c.view.result (λ viewed. becomes_on c.in_ok-close_all.ensures.becomes viewed) c.view.ensures.becomes
+returns-clause-becomes g c told = on_ok_weaker c.view.result (λ viewed found was. viewed found (c.in_ok-close_all.ensures.becomes told found was)) (c.view.ensures.becomes told)

@@ -19,7 +19,7 @@ returns-then-not-is_open-clause-after g c told world stands =
 pub returns-clause-ready : goal.returns-clause-ready
 returns-clause-ready g c =
     ok_is c.tell_end.result (record {
-      ready = ready_after_ports g.H.Outside.tells c.args.self.now.keeper (g.H.Outside.state c.args.host.now) (g.H.Outside.state c.tell_end.new.host) c.requires.ready.ready (c.tell_end.ensures.stops c.args.self.now.keeper.forest.meta c.args.self.now.keeper.forest.meta).sizes c.tell_end.ensures.files c.tell_end.ensures.leaves;
+      ready = ready_after_ports g.H.Outside.tells c.args.self.now.keeper (g.H.Outside.state c.args.host.now) (g.H.Outside.state c.tell_end.new.host) c.requires.ready.ready (c.tell_end.ensures.stops c.args.self.now.keeper.forest.meta).sizes c.tell_end.ensures.files c.tell_end.ensures.leaves;
       ports = subst (AllByRecursion (λ s. 1 ≤ s.port)) (sym c.remove-session.ensures.items) (all_removed (λ s. 1 ≤ s.port) c.args.self.now.sessions.items c.place-at.result c.requires.ready.ports);
     })
 

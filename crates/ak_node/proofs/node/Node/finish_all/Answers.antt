@@ -3,6 +3,7 @@ use Rattle.std.proofs.lemmas.Result.{on_ok_weaker}
 use Rattle.ak_host.specs.Marks.{Mark}
 use Rattle.ak_host.specs.Moments.{mark_now}
 use Rattle.ak_host.proofs.Passing.{same_mark, goes_on}
+use Rattle.ak_tree.proofs.Becoming.{origins_same}
 use Rattle.ak_tree.proofs.Telling.{worn_weaker}
 use Rattle.ak_world.proofs.Going.{flush_goes}
 use Rattle.ak_world.specs.Steps.{flushed}
@@ -14,7 +15,7 @@ use Rattle.ak_node.proofs.Turns.{done_in_act, done_leaves_act, done_after_act, d
 use Rattle.ak_node.proofs.node.Node.finish_all.Goals as goal
 
 pub returns-in_err-tell_ends-clause-stops : goal.returns-in_err-tell_ends-clause-stops
-returns-in_err-tell_ends-clause-stops g c = let stops = c.in_err-tell_ends.ensures.stops c.args.self.now.keeper.forest.meta c.args.self.now.keeper.forest.meta in search rules
+returns-in_err-tell_ends-clause-stops g c = let stops = c.in_err-tell_ends.ensures.stops c.args.self.now.keeper.forest.meta in search rules
 
 pub returns-in_err-tell_ends-clause-moments : goal.returns-in_err-tell_ends-clause-moments
 returns-in_err-tell_ends-clause-moments g c told world stands =
@@ -27,10 +28,18 @@ returns-in_err-tell_ends-clause-moments g c told world stands =
 
 pub flush-requires : goal.flush-requires
 flush-requires g c =
-    record { ready = ready_after_ports g.H.Outside.tells c.args.self.now.keeper (g.H.Outside.state c.args.host.now) (g.H.Outside.state c.tell_ends.new.host) c.requires.ready.ready (c.tell_ends.ensures.stops c.args.self.now.keeper.forest.meta c.args.self.now.keeper.forest.meta).sizes c.tell_ends.ensures.files c.tell_ends.ensures.leaves }
+    record { ready = ready_after_ports g.H.Outside.tells c.args.self.now.keeper (g.H.Outside.state c.args.host.now) (g.H.Outside.state c.tell_ends.new.host) c.requires.ready.ready (c.tell_ends.ensures.stops c.args.self.now.keeper.forest.meta).sizes c.tell_ends.ensures.files c.tell_ends.ensures.leaves }
 
 pub returns-clause-stops : goal.returns-clause-stops
-returns-clause-stops g c = stops_on _ _ _ _ _ _ _ _ c.flush.result (c.in_ok-tell_ends.ensures.stops c.args.self.now.keeper.forest.meta c.args.self.now.keeper.forest.meta) c.flush.ensures.stops
+returns-clause-stops g c =
+    let meta = c.args.self.now.keeper.forest.meta in
+    stops_on _ _ meta _ _ _ _ c.flush.result (c.in_ok-tell_ends.ensures.stops meta) (λ told. origins_same (g.H.Outside.state c.args.host.now) (g.H.Outside.state c.tell_ends.new.host) meta (c.tell_ends.ensures.files told)) c.flush.ensures.stops
+
+pub returns-clause-becomes : goal.returns-clause-becomes
+returns-clause-becomes g c told =
+    let meta = c.args.self.now.keeper.forest.meta in
+    let ended = origins_same (g.H.Outside.state c.args.host.now) (g.H.Outside.state c.tell_ends.new.host) meta (c.tell_ends.ensures.files told) in
+    on_ok_weaker c.flush.result (λ flushed found was. flushed found (ended found was)) (c.flush.ensures.becomes told)
 
 pub returns-clause-worn : goal.returns-clause-worn
 returns-clause-worn g c told world stands =

@@ -7,7 +7,7 @@ use Rattle.ak_host.proofs.Passing.{ports_leave}
 use Rattle.ak_run.specs.Replies.{refusal_reply}
 use Rattle.ak_node.proofs.Sessions.{session_of, session_later}
 use Rattle.ak_node.proofs.Staying.{by_moment, ok_is, holds_after_ports, ready_after_ports, left_last}
-use Rattle.ak_tree.proofs.Becoming.{becomes_same}
+use Rattle.ak_tree.proofs.Becoming.{origins_same}
 use Rattle.ak_tree.proofs.Telling.{worn_weaker}
 use Rattle.ak_node.proofs.Turns.{begun_of, begun_reads, piece_in_act, piece_leaves_act, piece_after_act, piece_wears, other_after, other_moment, other_leaves_moment, many_gives}
 use Rattle.ak_node.proofs.node.Node.piece.Goals as goal
@@ -66,13 +66,13 @@ returns-in-Ok-Some-clause-moments g c told world stands =
     (λ mark disk p left. piece_leaves_act world c.args.port c.args.bytes.now c.requires.port stands.holds.keeps.not_worn opened.0 x (mark_now host) s.1 mark disk left)
 
 pub returns-in-Ok-None-clause-stops : goal.returns-in-Ok-None-clause-stops
-returns-in-Ok-None-clause-stops g c = c.refuse.ensures.stops c.args.self.now.keeper.forest.meta c.args.self.now.keeper.forest.meta
+returns-in-Ok-None-clause-stops g c = c.refuse.ensures.stops c.args.self.now.keeper.forest.meta
 
 pub returns-in-Ok-None-clause-ready : goal.returns-in-Ok-None-clause-ready
 returns-in-Ok-None-clause-ready g c =
     ok_is c.refuse.result (record {
       ready = ready_after_ports g.H.Outside.tells c.args.self.now.keeper (g.H.Outside.state c.args.host.now) (g.H.Outside.state c.refuse.new.host) c.requires.ready.ready
-          (c.refuse.ensures.stops c.args.self.now.keeper.forest.meta c.args.self.now.keeper.forest.meta).sizes c.refuse.ensures.files (λ told. ports_leave (c.refuse.ensures.moments told));
+          (c.refuse.ensures.stops c.args.self.now.keeper.forest.meta).sizes c.refuse.ensures.files (λ told. ports_leave (c.refuse.ensures.moments told));
       ports = c.in-Ok-None.ensures.ports;
     })
 
@@ -96,4 +96,4 @@ returns-in-Ok-None-clause-moments g c told world stands =
     (λ mark disk m left. other_leaves_moment world (piece c.args.port c.args.bytes.now) c.args.port (refusal_reply TooMany) c.requires.port gives (mark_now old) mark disk m (left_last world.content c.args.self.now.keeper old stands.holds disk left))
 
 pub returns-in-Ok-None-clause-becomes : goal.returns-in-Ok-None-clause-becomes
-returns-in-Ok-None-clause-becomes g c = ok_is c.refuse.result (becomes_same c.args.self.now.keeper.forest.meta)
+returns-in-Ok-None-clause-becomes g c told = ok_is c.refuse.result (origins_same (g.H.Outside.state c.args.host.now) (g.H.Outside.state c.refuse.new.host) c.args.self.now.keeper.forest.meta (c.refuse.ensures.files told))

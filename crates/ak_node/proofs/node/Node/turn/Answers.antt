@@ -1,8 +1,11 @@
-use Rattle.std.proofs.Common.{◌∙◌}
+use Rattle.std.proofs.Common.{◌∙◌, arith}
+use Rattle.std.proofs.lemmas.Result.{on_ok_weaker}
 use Rattle.ak_host.specs.Marks.{taken}
+use Rattle.ak_tree.proofs.Becoming.{origins_same}
 use Rattle.ak_tree.proofs.Telling.{worn_weaker}
 use Rattle.ak_node.specs.Standing.{Stands, went_after}
 use Rattle.ak_node.proofs.Staying.{holds_after_ports, if_and_ok}
+use Rattle.ak_node.proofs.Stopping.{stops_behind}
 use Rattle.ak_node.proofs.Turns.{turn_acts, turn_taken, turn_wears, turn_after, turn_failed, went_same}
 use Rattle.ak_node.proofs.node.Node.turn.Goals as goal
 
@@ -55,3 +58,16 @@ returns-in-Ok-clause-moments g c told world stands =
 pub returns-in-Err-clause-moments : goal.returns-in-Err-clause-moments
 returns-in-Err-clause-moments g c told world stands =
     turn_failed world c.args.self.now (g.H.Outside.state c.args.host.now) (g.H.Outside.state c.turn.new.self) stands (c.in-Err.ensures.given_err told) (c.turn.ensures.moments told)
+
+pub returns-in-Ok-clause-stops : goal.returns-in-Ok-clause-stops
+returns-in-Ok-clause-stops g c fresh =
+    let meta = c.args.self.now.keeper.forest.meta in
+    let old = g.H.Outside.state c.args.host.now in
+    let mid = g.H.Outside.state c.turn.new.self in
+    stops_behind g.H.Outside.tells meta meta old mid (g.H.Outside.state c.act.new.host) c.act.result (omega (arith, c.turn.ensures.disk_faults)) c.turn.ensures.cause.later c.turn.ensures.sizes
+    (λ told. origins_same old mid meta (c.turn.ensures.disk told).files) (c.act.ensures.stops fresh)
+
+pub returns-in-Ok-clause-becomes : goal.returns-in-Ok-clause-becomes
+returns-in-Ok-clause-becomes g c told =
+    let same = origins_same (g.H.Outside.state c.args.host.now) (g.H.Outside.state c.turn.new.self) c.args.self.now.keeper.forest.meta (c.turn.ensures.disk told).files in
+    on_ok_weaker c.act.result (λ acted found was. acted found (same found was)) (c.act.ensures.becomes told)

@@ -55,6 +55,6 @@ returns-in-Ok-clause-few c =
     omega (arith, many c.self.inside.meta.series, are.room, are.rules_are.limits_are.slot_most, number)
 
 pub returns-in-Ok-clause-becomes : goal.returns-in-Ok-clause-becomes
-returns-in-Ok-clause-becomes c =
-    let m : Content = c.self.inside.meta in
-    subst (λ (t : Trees). Becomes t.meta c.add.new.self) c.self.view_is (subst (Becomes m) (sym c.in-Ok.ensures.ok) (becomes_named m c.args.name.now))
+returns-in-Ok-clause-becomes c seen found was =
+    let before : Becomes seen found c.self.inside.meta = subst (λ (t : Trees). Becomes seen found t.meta) (sym c.self.view_is) was in
+    subst (Becomes seen found) (sym c.in-Ok.ensures.ok) (becomes_named seen found c.self.inside.meta c.args.name.now before)

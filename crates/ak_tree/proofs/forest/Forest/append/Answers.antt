@@ -1,4 +1,4 @@
-use Rattle.std.proofs.Common.{◌≡◌, ◌<◌, ◌∙◌, [], ◌∷◌, ◌++◌, OnOk, length, ap, subst, sym, arith, rules}
+use Rattle.std.proofs.Common.{◌≡◌, ◌<◌, ◌∙◌, [], ◌∷◌, ◌++◌, OnOk, length, ap, refl, subst, sym, arith, rules}
 use Rattle.std.proofs.lemmas.Result.{on_ok_weaker}
 use Rattle.std.specs.Prelude.{IsTrue, IsFalse, true, false}
 use Rattle.ak_base.specs.Points.{IsPoint}
@@ -14,8 +14,8 @@ use Rattle.ak_tree.proofs.Appended.{begun, Below, IsFitted, OpensFor, own_opens,
 use Rattle.ak_tree.proofs.Closed.{framed_is, framed_none}
 use Rattle.ak_tree.proofs.Telling.{worn_from, memory_weaker, memory_from}
 use Rattle.ak_tree.proofs.Worn.{begun_left, own_left}
-use Rattle.ak_tree.specs.Later.{Becomes}
-use Rattle.ak_tree.proofs.Becoming.{becomes_it, becomes_on}
+use Rattle.ak_tree.specs.Later.{KeepsOrigins}
+use Rattle.ak_tree.proofs.Becoming.{origins_it}
 use Rattle.ak_tree.proofs.forest.Forest.append.Goals.{in-Some+else-extend+in_ok-close_leaf, in_default}
 use Rattle.ak_tree.proofs.forest.Forest.append.Goals as goal
 
@@ -314,21 +314,24 @@ returns-clause-moments g c told w holds =
     (c.view_in_time-2.ensures.moments told (begun fitted.now n p) put)
 
 pub returns-then-extend-clause-becomes : goal.returns-then-extend-clause-becomes
-returns-then-extend-clause-becomes g c =
+returns-then-extend-clause-becomes g c told =
     let yes : IsTrue true = search rules in
-    on_ok_weaker c.view_in_time.result (λ viewed. becomes_on (becomes_it c.args.self.now.meta c.extend.new.self.meta (ap (λ (t : Trees). t.meta) (c.if-extend.ensures.put yes))) viewed)
-    c.view_in_time.ensures.becomes
+    let start = g.D.Outside.state c.args.disk.now in
+    let put = origins_it start start c.args.self.now.meta c.extend.new.self.meta (ap (λ (t : Trees). t.meta) (c.if-extend.ensures.put yes)) refl in
+    on_ok_weaker c.view_in_time.result (λ viewed found was. viewed found (put found was)) (c.view_in_time.ensures.becomes told)
 
 pub returns-clause-becomes : goal.returns-clause-becomes
-returns-clause-becomes g c =
+returns-clause-becomes g c told =
     let m = c.args.self.now.meta in
-    let fitted : Becomes m c.match-index.self.meta = elim c.match-index.branch [
+    let start = g.D.Outside.state c.args.disk.now in
+    let fitted : KeepsOrigins start (g.D.Outside.state c.match-index.disk) m c.match-index.self.meta = elim c.match-index.branch [
       | in-Some+else-extend+in_ok-close_leaf b ↦
-          let kept = becomes_it m b.extend.new.self.meta (ap (λ (t : Trees). t.meta) (b.extend.ensures.full (is_false b.extend.result b.if-extend.false))) in
-          rw b.self-is (becomes_on kept b.in_ok-close_leaf.ensures.becomes)
-      | in_default b ↦ becomes_it m c.match-index.self.meta (ap (λ (t : Trees). t.meta) b.self-is)
+          let kept = b.extend.ensures.full (is_false b.extend.result b.if-extend.false) in
+          rw (b.self-is, b.disk-is)
+          (subst (λ (t : Trees). KeepsOrigins start (g.D.Outside.state b.close_leaf.new.disk) t.meta b.close_leaf.new.self.meta) kept (b.in_ok-close_leaf.ensures.becomes told))
+      | in_default b ↦ rw (b.self-is, b.disk-is) (origins_it start start m m refl refl)
     ] in
-    on_ok_weaker c.view_in_time-2.result (λ viewed. becomes_on (becomes_on fitted c.in_ok-begin.ensures.becomes) viewed) c.view_in_time-2.ensures.becomes
+    on_ok_weaker c.view_in_time-2.result (λ viewed found was. viewed found (c.in_ok-begin.ensures.becomes told found (fitted found was))) (c.view_in_time-2.ensures.becomes told)
 
 pub returns-then-extend-clause-memory : goal.returns-then-extend-clause-memory
 returns-then-extend-clause-memory g c = memory_weaker c.view_in_time.result (λ e. absurd e) c.view_in_time.ensures.no_memory

@@ -1,4 +1,4 @@
-use Rattle.std.proofs.Common.{◌<◌, ◌∙◌, length, get_or, None, ap, subst, sym, arith, rules}
+use Rattle.std.proofs.Common.{◌<◌, ◌∙◌, length, get_or, None, ap, refl, subst, sym, arith, rules}
 use Rattle.std.specs.Prelude.{IsTrue, IsFalse, true, false}
 use Rattle.ak_base.specs.Points.{IsPoint}
 use Rattle.ak_meta.specs.Contents.{names_of}
@@ -9,7 +9,8 @@ use Rattle.ak_tree.proofs.Appended.{Below, oldest_opens, not_free, one_free, beg
 use Rattle.ak_tree.proofs.Closed.{same_number}
 use Rattle.ak_tree.proofs.Telling.{worn_from, memory_from}
 use Rattle.ak_tree.proofs.Worn.{oldest_left}
-use Rattle.ak_tree.proofs.Becoming.{becomes_it, becomes_on}
+use Rattle.ak_tree.specs.Later.{KeepsOrigins}
+use Rattle.ak_tree.proofs.Becoming.{origins_it}
 use Rattle.ak_tree.proofs.forest.Forest.begin.Goals as goal
 
 pub returns-then-start-clause-after : goal.returns-then-start-clause-after
@@ -99,12 +100,13 @@ returns-clause-moments g c told w holds =
     full_passes w f c.args.series c.args.p (g.D.Outside.state c.args.disk.now) (g.D.Outside.state c.close_oldest.new.disk) are holds.keeps c.requires.known c.requires.none full (c.close_oldest.ensures.moments told w here)
 
 pub returns-then-start-clause-becomes : goal.returns-then-start-clause-becomes
-returns-then-start-clause-becomes g c =
+returns-then-start-clause-becomes g c told =
     let yes : IsTrue true = search rules in
-    becomes_it _ _ (ap (λ (t : Trees). t.meta) (c.if-start.ensures.started yes).1)
+    let host = g.D.Outside.state c.args.disk.now in
+    origins_it host host c.args.self.now.meta c.start.new.self.meta (ap (λ (t : Trees). t.meta) (c.if-start.ensures.started yes).1) refl
 
 pub returns-clause-becomes : goal.returns-clause-becomes
-returns-clause-becomes g c =
+returns-clause-becomes g c told found was =
     let f = c.args.self.now in
     let now = c.close_oldest.new.self in
     let no : IsFalse false = search rules in
@@ -112,8 +114,11 @@ returns-clause-becomes g c =
     let are : AreTrees f = subst AreTrees c.self.view_is c.self.invariant in
     let is : AreTrees now = subst AreTrees c.self-2.view_is c.self-2.invariant in
     let free = one_free f now are is (c.close_oldest.ensures.limits ∙ ap (λ (t : Trees). t.meta.limits) same) (c.in_ok-close_oldest.ensures.fewer ∙ ap (λ (t : Trees). length t.pool.used) same) in
-    let closing = becomes_on (becomes_it f.meta c.start.new.self.meta (ap (λ (t : Trees). t.meta) same)) c.in_ok-close_oldest.ensures.becomes in
-    becomes_on closing (becomes_it now.meta c.start-2.new.self.meta (ap (λ (t : Trees). t.meta) (c.start-2.ensures.started (c.start-2.ensures.room.1 free)).1))
+    let start = g.D.Outside.state c.args.disk.now in
+    let host = g.D.Outside.state c.close_oldest.new.disk in
+    let closing : KeepsOrigins start host f.meta now.meta = subst (λ (t : Trees). KeepsOrigins start host t.meta now.meta) same (c.in_ok-close_oldest.ensures.becomes told) in
+    let begun = origins_it host host now.meta c.start-2.new.self.meta (ap (λ (t : Trees). t.meta) (c.start-2.ensures.started (c.start-2.ensures.room.1 free)).1) refl in
+    begun found (closing found was)
 
 pub returns-in_err-close_oldest-clause-memory : goal.returns-in_err-close_oldest-clause-memory
 returns-in_err-close_oldest-clause-memory g c =

@@ -10,7 +10,7 @@ use Rattle.ak_tree.proofs.Framing.{length_known}
 use Rattle.ak_tree.proofs.Telling.{worn_from, memory_from}
 use Rattle.ak_tree.proofs.Worn.{way_left}
 use Rattle.ak_tree.proofs.Waiting.{places_stay}
-use Rattle.ak_tree.proofs.Becoming.{becomes_it, becomes_on}
+use Rattle.ak_tree.proofs.Becoming.{origins_it}
 use Rattle.ak_world.specs.Steps.{closed_from}
 use Rattle.ak_tree.proofs.forest.Forest.close_all.Goals.{then-is_some+in_ok-close_leaf, else-is_some}
 use Rattle.ak_tree.proofs.forest.Forest.close_all.Goals as goal
@@ -96,7 +96,7 @@ loop-series-preserved g c =
             ready = b.in_ok-close_leaf.ensures.ready;
             names = b.close_leaf.ensures.names ∙ before.names;
             limits = b.close_leaf.ensures.limits ∙ before.limits;
-            becomes = becomes_on before.becomes b.in_ok-close_leaf.ensures.becomes;
+            becomes = λ told found was. b.in_ok-close_leaf.ensures.becomes told found (before.becomes told found was);
             places = λ n past some.
                 let other : n ≢ i = λ e. omega (arith, e, past) in
                 let frame : get_or b.close_leaf.new.self.frames n None ≡ get_or now.frames n None = ap (λ l. get_or l n None) b.in_ok-close_leaf.ensures.frames ∙ get_or-set_other now.frames i n None None other in
@@ -167,7 +167,7 @@ loop-series-init g c =
       ready = ready_placed g.D.Outside.tells f one host same c.requires.ready;
       names = ap (λ (t : Trees). names_of t.meta.series) same.others;
       limits = ap (λ (t : Trees). t.meta.limits) same.others;
-      becomes = becomes_it f.meta one.meta (ap (λ (t : Trees). t.meta) same.others);
+      becomes = λ told. origins_it host host f.meta one.meta (ap (λ (t : Trees). t.meta) same.others) refl;
       places = λ n past some. c.in_ok-reserve_all.ensures.places n some;
       none = λ n below. absurd (omega (arith, below));
       reads = λ told. refl;

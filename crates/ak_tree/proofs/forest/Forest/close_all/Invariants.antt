@@ -1,7 +1,7 @@
 use Rattle.std.proofs.Common.{◌≡◌, ◌≢◌, ◌<◌, ◌≤◌, ℕ, length, get_or, None}
 use Rattle.ak_host.specs.Moments.{DiskPasses}
 use Rattle.ak_meta.specs.Contents.{names_of}
-use Rattle.ak_tree.specs.Later.{Becomes}
+use Rattle.ak_tree.specs.Later.{KeepsOrigins}
 use Rattle.ak_tree.specs.Standing.{Holds, HasPlaces, IsReady}
 use Rattle.ak_tree.specs.Storing.{LeavesView}
 use Rattle.ak_world.specs.Steps.{closed_from}
@@ -17,7 +17,7 @@ invariant-loop-series g l = record {
   ready : IsReady g.D.Outside.tells l.self (g.D.Outside.state l.disk);
   names : names_of l.self.meta.series ≡ names_of l.fn.self.meta.series;
   limits : l.self.meta.limits ≡ l.fn.self.meta.limits;
-  becomes : Becomes l.fn.self.meta l.self.meta;
+  becomes : g.D.Outside.tells → KeepsOrigins (g.D.Outside.state l.fn.disk) (g.D.Outside.state l.disk) l.fn.self.meta l.self.meta;
   places : (n : ℕ) → l.series ≤ n → get_or l.self.frames n None ≢ None → HasPlaces l.self n;
   none : (n : ℕ) → n < l.series → get_or l.self.frames n None ≡ None;
   reads : g.D.Outside.tells → (g.D.Outside.state l.disk).reads ≡ (g.D.Outside.state l.fn.disk).reads;

@@ -1,23 +1,26 @@
 use Rattle.std.proofs.Common.{◌≡◌, ◌+◌, ◌<◌, ◌≤◌, ◌∙◌, ℕ, suc, [], ◌∷◌, ◌++◌, List, length, set, ap, ap₂, sym, subst, arith}
 use Rattle.ak_host.proofs.Passing.{disk_goes_on}
+use Rattle.ak_base.specs.Points.{last_ts_from}
+use Rattle.ak_image.specs.Laid.{spot}
 use Rattle.ak_levels.specs.Carries.{carry_of}
 use Rattle.ak_levels.specs.Closes.{raised, emptied}
 use Rattle.ak_levels.specs.Entries.{AreLawful}
 use Rattle.ak_levels.specs.Pending.{Lists, HasRoom, with_pending, pending_at}
 use Rattle.ak_meta.specs.Contents.{Content, names_of}
-use Rattle.ak_meta.specs.Leaves.{leaves_at}
+use Rattle.ak_meta.specs.Leaves.{closed_in, leaves_at}
 use Rattle.ak_meta.specs.declared.meta.SeriesMeta.{SeriesMeta}
 use Rattle.ak_pool.specs.Frames.{Frames, leaf_of}
 use Rattle.ak_tree.specs.Standing.{Trees, AreTrees, Holds, levels_at, last_known}
 use Rattle.ak_tree.specs.Writing.{IsGroup}
-use Rattle.ak_volumes.specs.Ordinals.{newest_fill}
-use Rattle.ak_tree.proofs.Closed.{IsRoomed, is_roomed, known_few, others_of, frame_found, group_blocks, closed_worn, closed_early, closed_passes, closed_holds, fits_outside, ready_same, names_closed, fewer_used, last_closed, holds_placed, enter_place, enter_lawful, is_after, IsAfter, leaves_others, index_fits}
+use Rattle.ak_volumes.specs.Ordinals.{newest_fill, filled}
+use Rattle.ak_tree.proofs.Closed.{IsRoomed, is_roomed, known_few, others_of, frame_found, group_blocks, closed_worn, closed_early, closed_passes, closed_holds, fits_outside, ready_same, names_closed, fewer_used, last_closed, holds_placed, enter_place, enter_lawful, is_after, IsAfter, index_fits, group_here}
 use Rattle.ak_tree.proofs.Groups.{group_is}
 use Rattle.ak_tree.proofs.Telling.{worn_from, memory_from}
 use Rattle.ak_tree.proofs.Worn.{closed_left}
 use Rattle.ak_tree.proofs.Waiting.{places_next, opens_level, trees_set}
-use Rattle.ak_tree.specs.Later.{Becomes}
-use Rattle.ak_tree.proofs.Becoming.{becomes_it, becomes_on, becomes_filled, becomes_closed}
+use Rattle.ak_tree.specs.Later.{KeepsOrigins}
+use Rattle.ak_tree.proofs.Becoming.{leaves_others}
+use Rattle.ak_tree.proofs.Placed.{origins_entered}
 use Rattle.ak_tree.proofs.forest.Forest.close_leaf.Goals as goal
 
 pub returns-in_err-reserve-clause-memory : goal.returns-in_err-reserve-clause-memory
@@ -202,7 +205,7 @@ enter-requires-clause-lawful g c =
     (λ (t : Trees). AreLawful (leaves_at t.meta.series n + 1)
     (with_pending (levels_at (record t { levels = set t.levels n c.write_group.new.levels }) n) others (pending_at (levels_at (record t { levels = set t.levels n c.write_group.new.levels }) n) others ++ c.in-Ok.above ∷ [])))
     (sym c.self-3.view_is)
-    (enter_lawful room n others c.group-group.result.leaf c.in-Ok.above c.write_group.new.levels are roomed.within roomed.long roomed.lawful roomed.room_for c.group-group.ensures.tally others_is below above)
+    (enter_lawful room n others c.group-group.result.leaf c.in-Ok.above c.write_group.new.levels are roomed.within roomed.long roomed.lawful roomed.room_for c.group-group.ensures.tally c.in_ok-make_place.ensures.room others_is below above)
 
 pub invariant_of-self-in-Err : goal.invariant_of-self-in-Err
 invariant_of-self-in-Err g c =
@@ -288,7 +291,7 @@ returns-in-Ok-clause-names g c =
     ap (λ (m : Content). names_of m.series) after.meta ∙ names_closed room.meta.series n _ _ ∙ ap names_of roomed.series
 
 pub returns-in-Ok-clause-becomes : goal.returns-in-Ok-clause-becomes
-returns-in-Ok-clause-becomes g c =
+returns-in-Ok-clause-becomes g c told found was =
     let n = c.args.series in
     let f = c.args.self.now in
     let one = c.reserve.new.self in
@@ -306,10 +309,21 @@ returns-in-Ok-clause-becomes g c =
     let above : c.in-Ok.above ≡ raised (levels_at room n) c.group-group.result.leaf others = c.in-Ok.ensures.raised ∙ ap₂ (λ (v : Lists) (k : ℕ). raised v c.group-group.result.leaf k) item c.group-group.ensures.others in
     let after : IsAfter room c.enter.new.self n others frame = is_after _ room c.enter.new.self n others frame c.group-group.result.leaf c.in-Ok.above c.write_group.new.levels c.self-3.view_is roomed.long others_is c.group-group.ensures.leaf below above
     c.enter.ensures.meta c.enter.ensures.pool c.enter.ensures.frames c.enter.ensures.levels c.enter.ensures.valid c.enter.ensures.check c.enter.ensures.since in
+    let index_is = c.n-index.ensures ∙ ap newest_fill (c.volumes.ensures ∙ ap (λ (t : Trees). t.meta.ordinals) c.self-3.view_is) in
     let m : Content = room.meta in
-    let more = becomes_on (becomes_filled m (1 + others)) (becomes_closed _ n _ _) in
-    let before = becomes_on (becomes_it f.meta one.meta (ap (λ (t : Trees). t.meta) c.in_ok-reserve.ensures.same)) c.in_ok-make_place.ensures.becomes in
-    becomes_on before (subst (Becomes m) (sym after.meta) more)
+    let ps = leaf_of room.pool.used frame.0 in
+    let made = group_is c.group-group.result m n ps c.group-group.ensures.series c.group-group.ensures.number c.group-group.ensures.elders c.group-group.ensures.leaf (c.group-group.ensures.others ∙ others_is) in
+    let start = g.D.Outside.state c.args.disk.now in
+    let mid = g.D.Outside.state c.make_place.new.disk in
+    let host = g.D.Outside.state c.write_group.new.disk in
+    let group = group_here m n c.newest_file-file.result c.n-index.result c.group-group.result ps c.get_mut-levels.result.now c.leaf_block-block.result mid.files host.files made c.newest_file-file.ensures index_is (c.in-Ok.ensures.files told) in
+    let fits : newest_fill m.ordinals + (1 + carry_of (leaves_at m.series n)) ≤ m.ordinals.blocks = omega (arith, others_is, c.in_ok-make_place.ensures.room) in
+    let last = last_ts_from 0 ps in
+    let entered = origins_entered m n ps are.rules_are fits c.leaf_block-block.result mid host c.get_mut-levels.result.now last roomed.within c.leaf_block-block.ensures group in
+    let closed : KeepsOrigins mid host m (closed_in (record m { ordinals = filled m.ordinals (1 + others) }) n last (spot m.ordinals)) =
+    subst (λ (k : ℕ). KeepsOrigins mid host m (closed_in (record m { ordinals = filled m.ordinals (1 + k) }) n last (spot m.ordinals))) (sym others_is) entered in
+    let before : KeepsOrigins start mid f.meta m = subst (λ (t : Trees). KeepsOrigins start mid t.meta m) c.in_ok-reserve.ensures.same (c.in_ok-make_place.ensures.becomes told) in
+    subst (KeepsOrigins mid host m) (sym after.meta) closed found (before found was)
 
 pub returns-in-Ok-clause-fewer : goal.returns-in-Ok-clause-fewer
 returns-in-Ok-clause-fewer g c =

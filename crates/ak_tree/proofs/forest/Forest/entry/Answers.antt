@@ -1,4 +1,4 @@
-use Rattle.std.proofs.Common.{◌≡◌, ◌∙◌, ◌<◌, ◌≤◌, ◌^◌, List, length, get_or, sym, ap, subst, arith}
+use Rattle.std.proofs.Common.{◌≡◌, ◌∙◌, ◌<◌, List, length, get_or, sym, ap, subst, arith}
 use Rattle.std.proofs.lemmas.List.{get_or_read}
 use Rattle.ak_levels.specs.Entries.{AreLawful}
 use Rattle.ak_levels.specs.Pending.{Lists, no_lists}
@@ -6,7 +6,7 @@ use Rattle.ak_meta.proofs.Closing.{leaves_there}
 use Rattle.ak_meta.specs.Leaves.{leaves_at}
 use Rattle.ak_meta.specs.declared.meta.SeriesMeta.{SeriesMeta}
 use Rattle.ak_tree.specs.Standing.{Trees, levels_at}
-use Rattle.ak_tree.proofs.Planted.{lawful_long, lawful_at, leaves_most}
+use Rattle.ak_tree.proofs.Planted.{lawful_long, lawful_at}
 use Rattle.ak_tree.proofs.forest.Forest.entry.Goals as goal
 
 pub bounds-as_slice-series : goal.bounds-as_slice-series
@@ -36,6 +36,3 @@ returns-clause-lawful c =
     let m = c.self.inside in
     let known : c.args.series < length m.meta.series = subst (λ (t : Trees). c.args.series < length t.meta.series) (sym c.self.view_is) c.requires in
     subst (λ (t : Trees). AreLawful (leaves_at t.meta.series c.args.series) (levels_at t c.args.series)) c.self.view_is (lawful_at m.meta.series m.levels c.args.series c.self.invariant.lawful known)
-
-pub returns-clause-most : goal.returns-clause-most
-returns-clause-most c = subst (λ (t : Trees). leaves_at t.meta.series c.args.series ≤ 2 ^ 52) c.self.view_is (leaves_most c.self.inside.meta c.args.series c.self.invariant.rules_are)

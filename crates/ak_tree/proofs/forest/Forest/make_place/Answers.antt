@@ -7,9 +7,6 @@ use Rattle.ak_tree.specs.Storing.{LeavesView}
 use Rattle.ak_volumes.specs.Ordinals.{Ordinals, newest, newest_fill}
 use Rattle.ak_world.specs.Worlds.{World}
 use Rattle.ak_tree.proofs.Joining.{room_switch}
-use Rattle.std.proofs.lemmas.Result.{on_ok_weaker}
-use Rattle.ak_tree.specs.Later.{Becomes}
-use Rattle.ak_tree.proofs.Becoming.{becomes_same, becomes_switched}
 use Rattle.ak_tree.proofs.Telling.{worn_here}
 use Rattle.ak_tree.proofs.Worn.{room_left}
 use Rattle.ak_tree.proofs.forest.Forest.make_place.Goals as goal
@@ -33,9 +30,4 @@ returns-in-Worn-clause-left g c told w holds =
     worn_here c.worn.result (λ s. room_left w c.args.self.now c.args.blocks holds.keeps over (ap newest (sym same) ∙ c.in-Worn.ensures.1))
 
 pub returns-in-Here-clause-becomes : goal.returns-in-Here-clause-becomes
-returns-in-Here-clause-becomes g c = becomes_same c.args.self.now.meta
-
-pub returns-in-Switch-clause-becomes : goal.returns-in-Switch-clause-becomes
-returns-in-Switch-clause-becomes g c =
-    let m = c.args.self.now.meta in
-    on_ok_weaker c.switch.result (λ same. subst (λ (t : Trees). Becomes m t.meta) (sym same) (becomes_switched m)) c.switch.ensures.same
+returns-in-Here-clause-becomes g c told found was = was

@@ -1,11 +1,14 @@
-use Rattle.std.proofs.Common.{◌≡◌, inl, inr, ◌-◌, ◌^◌, ◌<◌, ◌∙◌, ap, sym, subst}
+use Rattle.std.proofs.Common.{◌≡◌, inl, inr, ◌-◌, ◌^◌, ◌<◌, ◌∙◌, OnOk, ap, sym, subst}
 use Rattle.std.proofs.lemmas.Bool.{cases_lt}
 use Rattle.ak_host.specs.Moments.{DiskPasses}
 use Rattle.ak_host.proofs.Passing.{disk_starts}
+use Rattle.ak_tree.specs.Later.{KeepsOrigins}
 use Rattle.ak_tree.specs.Standing.{Trees, Holds, Keeps, trees}
 use Rattle.ak_tree.specs.Storing.{LeavesView}
 use Rattle.ak_volumes.specs.Ordinals.{Ordinals, newest, file_of, switched}
 use Rattle.ak_world.specs.Steps.{switch}
+use Rattle.std.proofs.lemmas.Result.{on_ok_weaker}
+use Rattle.ak_tree.proofs.Becoming.{origins_switched}
 use Rattle.ak_tree.proofs.Saved.{trees_switched, switch_holds, switch_leaves}
 use Rattle.ak_tree.proofs.Telling.{worn_both}
 use Rattle.ak_tree.proofs.Worn.{switch_left}
@@ -58,3 +61,14 @@ returns-clause-moments g c told w holds =
           c.self.invariant.rules_are below h begun least (c.save.ensures.moments told)
       | inr last ↦ subst (λ d. DiskPasses (LeavesView w (switch w)) old (g.D.Outside.state d)) (sym (c.save.ensures.last last)) (disk_starts (LeavesView w (switch w)) old)
     ]
+
+pub returns-clause-becomes : goal.returns-clause-becomes
+returns-clause-becomes g c told =
+    let m = c.self.inside in
+    let old = g.D.Outside.state c.args.disk.now in
+    let new = g.D.Outside.state c.save.new.disk in
+    let begun = c.switch.ensures.switched ∙ ap switched c.volumes_mut.ensures.value in
+    let kept : KeepsOrigins old new m.meta (record m.meta { ordinals = c.switch.new.self }) =
+    subst (λ (o : Ordinals). KeepsOrigins old new m.meta (record m.meta { ordinals = o })) (sym begun) (origins_switched old new m.meta (c.save.ensures.elsewhere told)) in
+    subst (λ (f : Trees). OnOk c.save.result (KeepsOrigins old new f.meta c.save.new.self.meta)) c.self.view_is
+    (on_ok_weaker c.save.result (λ same. subst (λ (t : Trees). KeepsOrigins old new m.meta t.meta) (sym same) kept) c.save.ensures.same)

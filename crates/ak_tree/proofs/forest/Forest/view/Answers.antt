@@ -1,4 +1,4 @@
-use Rattle.std.proofs.Common.{ap, inl, inr, ◌-◌, ◌^◌, ◌≤◌, arith, sym, subst}
+use Rattle.std.proofs.Common.{inl, inr, ◌-◌, ◌^◌, ◌≤◌, arith, sym, subst}
 use Rattle.std.proofs.lemmas.Bool.{cases_lt}
 use Rattle.ak_host.specs.Moments.{DiskPasses}
 use Rattle.ak_host.proofs.Passing.{disk_starts}
@@ -10,7 +10,8 @@ use Rattle.ak_tree.proofs.Saved.{newest_among, view_holds, view_leaves, view_tol
 use Rattle.ak_tree.proofs.Telling.{worn_both, worn_weaker}
 use Rattle.ak_tree.proofs.Worn.{view_left}
 use Rattle.std.proofs.lemmas.Result.{on_ok_weaker}
-use Rattle.ak_tree.proofs.Becoming.{becomes_it}
+use Rattle.ak_tree.specs.Later.{KeepsOrigins}
+use Rattle.ak_tree.proofs.Becoming.{origins_saved}
 use Rattle.ak_tree.proofs.forest.Forest.view.Goals as goal
 
 pub save-requires-clause-among : goal.save-requires-clause-among
@@ -38,4 +39,8 @@ returns-clause-moments g c told w holds =
     ]
 
 pub returns-clause-becomes : goal.returns-clause-becomes
-returns-clause-becomes g c = on_ok_weaker c.save.result (λ same. becomes_it _ _ (ap (λ (t : Trees). t.meta) same)) c.save.ensures.same
+returns-clause-becomes g c told =
+    let old = g.D.Outside.state c.args.disk.now in
+    let new = g.D.Outside.state c.save.new.disk in
+    let m = c.args.self.now.meta in
+    on_ok_weaker c.save.result (λ same. subst (λ (t : Trees). KeepsOrigins old new m t.meta) (sym same) (origins_saved old new m (c.save.ensures.elsewhere told))) c.save.ensures.same

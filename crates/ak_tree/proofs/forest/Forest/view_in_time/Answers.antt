@@ -1,5 +1,4 @@
-use Rattle.ak_tree.proofs.Becoming.{becomes_same}
 use Rattle.ak_tree.proofs.forest.Forest.view_in_time.Goals as goal
 
 pub returns-then-self-from-clause-becomes : goal.returns-then-self-from-clause-becomes
-returns-then-self-from-clause-becomes g c = becomes_same c.args.self.now.meta
+returns-then-self-from-clause-becomes g c told found was = was
