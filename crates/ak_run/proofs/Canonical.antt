@@ -1,5 +1,5 @@
 -- The names of a text name themselves alone.
-use Rattle.std.proofs.Common.{◌≡◌, ◌∙◌, ◌+◌, ◌<◌, ℕ, zero, suc, inl, inr, Bool, true, false, not, List, [], ◌∷◌, ◌++◌, map, filter, length, take, drop, get_or, bytes_eq, refl, sym, ap, subst, arith, length-append, append-nil, append_assoc, add-one}
+use Rattle.std.proofs.Common.{◌≡◌, ◌∙◌, ◌+◌, ◌<◌, ℕ, zero, suc, inl, inr, Bool, true, false, not, List, [], ◌∷◌, ◌++◌, map, filter, length, drop, get_or, bytes_eq, refl, sym, ap, subst, arith, length-append, append-nil, append_assoc, add-one}
 use Rattle.std.specs.Prelude.{IsUtf8, ◌==◌, if◌then◌else◌, slice_index}
 use Rattle.std.specs.List.{slice_split, onto_first, AllByRecursion, IsDistinct}
 use Rattle.std.proofs.lemmas.Bool.{cases_Bool, eqb-true, ne_eqb}

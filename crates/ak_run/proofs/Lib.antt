@@ -1,3 +1,4 @@
+pub mod Accepting
 pub mod Allowed
 pub mod Canonical
 pub mod Confirming
@@ -8,6 +9,7 @@ pub mod EveryValue
 pub mod Examples
 pub mod Giving
 pub mod Growing
+pub mod Holding
 pub mod OneAsking
 pub mod Orders
 pub mod Puts

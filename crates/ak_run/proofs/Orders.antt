@@ -1,5 +1,5 @@
 -- What is asked for keeps that each view holds the live ones of the first leaves.
-use Rattle.std.proofs.Common.{inl, inr, ℕ, zero, suc, ◌+◌, ◌-◌, ◌^◌, Bool, true, false, if◌then◌else◌, ◌==◌, ◌||◌, ◌&&◌, nat_le, List, [], ◌∷◌, length, refl, sym, subst, arith, append-nil, ℤ, is_some}
+use Rattle.std.proofs.Common.{inl, inr, ℕ, zero, suc, ◌+◌, ◌-◌, ◌^◌, Bool, true, false, if◌then◌else◌, ◌==◌, ◌&&◌, nat_le, List, [], ◌∷◌, length, refl, sym, subst, arith, append-nil, ℤ, is_some}
 use Rattle.std.specs.List.{AllByRecursion}
 use Rattle.ak_base.specs.declared.point.Point.{Point}
 use Rattle.ak_meta.proofs.Fronts.{each_push, each_taken}

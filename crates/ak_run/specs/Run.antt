@@ -1,16 +1,21 @@
 -- A run: what turns make of the world, and what they are answered.
+use Rattle.std.proofs.Common.{inl, inr}
 use Rattle.std.specs.Prelude.{ℕ, ◌≡◌, ◌≢◌, ◌↔◌, ◌⊎◌, ◌≤◌, Bool, true, false, if◌then◌else◌, List, [], ◌∷◌, ◌++◌, length, Option, Some, None}
+use Rattle.std.specs.Str.{bytes_eq}
+use Rattle.ak_base.specs.declared.point.Point.{Point}
 use Rattle.ak_base.specs.declared.refusal.Refusal.{Refusal}
 use Rattle.ak_base.specs.declared.refusal.Refusal.TheVariants.{Cut, TooMany}
 use Rattle.ak_host.specs.Marks.{Taken, piece, ended, idle, done}
+use Rattle.ak_meta.specs.declared.meta.SeriesMeta.{SeriesMeta}
 use Rattle.ak_resp.specs.declared.message.Message.{Message}
 use Rattle.ak_resp.specs.Grammar.{IsOpen, Splits}
 use Rattle.ak_resp.specs.Standing.{HasRefusal}
 use Rattle.ak_run.specs.declared.asked.Asked.{Asked}
 use Rattle.ak_run.specs.Asking.{AllAsk}
-use Rattle.ak_run.specs.Contents.{after_all}
+use Rattle.ak_run.specs.Contents.{after_all, given_by_all}
 use Rattle.ak_run.specs.Replies.{Reply, plain, refusal_reply, replies_to, bytes_at}
 use Rattle.ak_run.specs.Sessions.{Session, stream_at, with_session, without, most_sessions}
+use Rattle.ak_world.specs.Leaves.{Leaf, leaves_from, points_of}
 use Rattle.ak_world.specs.Steps.{flushed}
 use Rattle.ak_world.specs.Views.{View}
 use Rattle.ak_world.specs.Worlds.{World as Store, world_of as opened, limits_of}
@@ -136,3 +141,43 @@ pub record AreAnswers (view : View) (turns : List Taken) (port : ℕ) (bytes : L
   pub replies : List Reply
   pub run : RunsFrom (world_of view) turns last replies
   pub is : bytes ≡ bytes_at port replies
+
+-- ---- The points of a run
+
+-- what the messages that act in a turn ask for
+abbrev pub asked_in : (world : World) (turn : Taken) (next : World) (replies : List Reply) → Gives world turn next replies → List Asked
+asked_in world turn next replies (inl worn) = []
+asked_in world (piece port bytes) next replies (inr (sound, inl many)) = []
+asked_in world (piece port bytes) next replies (inr (sound, inr (few, acts))) = acts.gives.asked
+asked_in world (ended port) next replies (inr acts) = []
+asked_in world idle next replies (inr acts) = []
+asked_in world done next replies (inr acts) = []
+
+-- of the points that are put in these turns and not refused, those of one name, in order
+abbrev pub given_in : List ℕ → (turns : List Taken) (world last : World) (replies : List Reply) → RunsFrom world turns last replies → List Point
+given_in name [] world last replies run = []
+given_in name (turn ∷ turns) world last replies (next, first, others, gives, run, told) =
+    given_by_all name world.content (asked_in world turn next first gives) ++ given_in name turns next last others run
+
+-- the points of the leaves that a view holds of the series of this name
+abbrev pub points_held : List SeriesMeta → List (List Leaf) → List ℕ → List Point
+points_held [] kept name = []
+points_held (known ∷ others) [] name = if bytes_eq known.name name then [] else points_held others [] name
+points_held (known ∷ others) (leaves ∷ kept) name = if bytes_eq known.name name then points_of leaves else points_held others kept name
+
+-- the points of one name that were accepted: those of the opening view's leaves, and then those that are put in the run
+abbrev pub accepted_in : List ℕ → (view : View) (turns : List Taken) (last : World) (replies : List Reply) → RunsFrom (world_of view) turns last replies → List Point
+accepted_in name view turns last replies run = points_held view.content.series view.kept name ++ given_in name turns (world_of view) last replies run
+
+-- These are the live ones of some leaves, whose points are a prefix of those that were accepted.
+pub record HoldsFirst (lo : ℕ) (accepted : List Point) (leaves : List Leaf) : Type 0 where
+  pub had : List Leaf
+  pub rest : List Point
+  pub points : accepted ≡ points_of had ++ rest
+  pub live : leaves ≡ leaves_from lo had
+
+-- so a view holds leaves of each series of its record, where these points were accepted of each name
+abbrev pub AllHoldFirst : ℕ → (List ℕ → List Point) → List SeriesMeta → List (List Leaf) → Type 0
+AllHoldFirst lo accepted [] kept = kept ≡ []
+AllHoldFirst lo accepted (known ∷ others) [] = ⊥
+AllHoldFirst lo accepted (known ∷ others) (leaves ∷ kept) = HoldsFirst lo (accepted known.name) leaves × AllHoldFirst lo accepted others kept

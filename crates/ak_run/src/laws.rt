@@ -7,7 +7,8 @@ ghost use Rattle.ak_resp.specs.declared.message.Message.{Message};
 ghost use Rattle.ak_run.specs.declared.asked.Asked.{Asked};
 ghost use Rattle.ak_run.specs.Asking.{Asks};
 ghost use Rattle.ak_run.specs.Replies.{Reply};
-ghost use Rattle.ak_run.specs.Run.{World, world_of, RunsFrom, AreAnswers};
+ghost use Rattle.ak_run.specs.Run.{World, world_of, accepted_in, given_in, AllHoldFirst, RunsFrom, AreAnswers};
+ghost use Rattle.ak_world.specs.Accepted.{accepted_of, Gains};
 ghost use Rattle.ak_world.specs.Valid.{AreOpenable, Goes, IsPrefix};
 ghost use Rattle.ak_world.specs.Views.{View};
 ghost use Rattle.ak_world.specs.Worlds.{views_of};
@@ -43,4 +44,19 @@ pub fn views_hold_prefixes()
 /// A run keeps the views that were taken, and takes others with greater numbers alone.
 pub fn views_go_on()
     ensures { (world last : World) (turns : List Taken) (replies : List Reply) → RunsFrom world turns last replies → Goes world.content last.content }
+{}
+
+/// Over a run the points of each name that were accepted get more at their end alone: those that are put and not refused, in
+/// order. Where the store gets worn these may be the first of them alone.
+pub fn points_come_in_order()
+    ensures { (world last : World) (turns : List Taken) (replies : List Reply) (run : RunsFrom world turns last replies) (name : List ℕ)
+        → Gains last.content.worn (given_in name turns world last replies run) (accepted_of world.content name) (accepted_of last.content name) }
+{}
+
+/// Each view that a run takes or opens holds, for each series, the live ones of the leaves that it had, and the points of those
+/// are a prefix of the points that were accepted: those of the opening view, and then those that were put.
+pub fn views_hold_accepted_points()
+    ensures { (view : View) (turns : List Taken) (last : World) (replies : List Reply) → IsMeta view.content → AreOpenable view.content.ordinals.lo view.content.series view.kept
+        → (run : RunsFrom (world_of view) turns last replies)
+        → AllByRecursion (λ v. AllHoldFirst v.content.ordinals.lo (λ name. accepted_in name view turns last replies run) v.content.series v.kept) (views_of last.content) }
 {}

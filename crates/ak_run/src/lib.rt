@@ -12,7 +12,10 @@ mod values;
 
 pub use asked::{Asked, Values};
 pub use asking::{ask, ask_known};
-pub use laws::{every_asking, every_run, one_asking, one_run, views_go_on, views_hold_prefixes};
+pub use laws::{
+    every_asking, every_run, one_asking, one_run, points_come_in_order, views_go_on,
+    views_hold_accepted_points, views_hold_prefixes,
+};
 pub use replies::{write_bulk, write_refusal};
 pub use rows::{is_of, write_rows};
 

@@ -27,7 +27,7 @@ room_for w n is whole =
     whole
 
 -- a world that is worn stays so
-whole_before : (b : Bool) (u w : World) → u.worn ≡ b → (if b then u else w).worn ≡ false → u.worn ≡ false
+pub whole_before : (b : Bool) (u w : World) → u.worn ≡ b → (if b then u else w).worn ≡ false → u.worn ≡ false
 whole_before true u w is whole = whole
 whole_before false u w is whole = is
 

@@ -40,7 +40,7 @@ kept_written w n p = live_written w.ordinals.lo w.series n p
 
 -- ---- Names
 
-abbrev names : List Series → List (List ℕ)
+abbrev pub names : List Series → List (List ℕ)
 names ss = map (λ (s : Series). s.name) ss
 
 names_known : (opened : List SeriesMeta) (ss : List Series) → names_of (all_known opened ss) ≡ names ss
@@ -48,12 +48,12 @@ names_known opened [] = refl
 names_known [] (s ∷ ss) = ap (λ (ns : List (List ℕ)). s.name ∷ ns) (names_known [] ss)
 names_known (o ∷ opened) (s ∷ ss) = ap (λ (ns : List (List ℕ)). s.name ∷ ns) (names_known opened ss)
 
-neither : (a b : Bool) → (a || b) ≡ false → (a ≡ false) × (b ≡ false)
+pub neither : (a b : Bool) → (a || b) ≡ false → (a ≡ false) × (b ≡ false)
 neither false b h = (refl, h)
 neither true b h = absurd (cc)
 
 -- another name is passed
-passed : (name : List ℕ) (s : Series) (ss : List Series) → bytes_eq name s.name ≡ false → with_name (s ∷ ss) name ≡ s ∷ with_name ss name
+pub passed : (name : List ℕ) (s : Series) (ss : List Series) → bytes_eq name s.name ≡ false → with_name (s ∷ ss) name ≡ s ∷ with_name ss name
 passed name s ss other = ap (λ (b : Bool). if b then s ∷ ss else s ∷ with_name ss name) (nat_list_eq_equiv.symm s.name name ∙ other)
 
 known_named : (opened : List SeriesMeta) (ss : List Series) (name : List ℕ) → AreSeriesOf opened ss → list_any (λ n. bytes_eq name n) (names ss) ≡ false
@@ -83,7 +83,7 @@ stays (s ∷ ss) name some =
     same (bytes_eq s.name name) rest s ss (with_name ss name) (ap (λ (b : Bool). b || rest) (nat_list_eq_equiv.symm s.name name) ∙ some) (stays ss name)
 
 -- the names of the record are those of the world
-told : (w : World) (name : List ℕ) (b : Bool) → list_any (λ n. bytes_eq name n) (names_of (content_now w).series) ≡ b → list_any (λ n. bytes_eq name n) (names w.series) ≡ b
+pub told : (w : World) (name : List ℕ) (b : Bool) → list_any (λ n. bytes_eq name n) (names_of (content_now w).series) ≡ b → list_any (λ n. bytes_eq name n) (names w.series) ≡ b
 told w name b h = sym (ap (λ (ns : List (List ℕ)). list_any (λ n. bytes_eq name n) ns) (names_known w.opened.content.series w.series)) ∙ h
 
 pub content_named : (w : World) (name : List ℕ) → IsWorld w → list_any (λ n. bytes_eq name n) (names_of (content_now w).series) ≡ false

@@ -1,6 +1,8 @@
+pub mod Accepting
 pub mod Closing
 pub mod ContentsOfLeaves
 pub mod ContentsOfNames
+pub mod FrontPoints
 pub mod Going
 pub mod Opened
 pub mod Rescues

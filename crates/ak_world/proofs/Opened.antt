@@ -72,7 +72,7 @@ each_opened lo (o ∷ all) (leaves ∷ kept) may = (series_opened lo o leaves ma
 each_held : (lo : ℕ) (all : List SeriesMeta) (kept : List (List Leaf)) → AreOpenable lo all kept → AreHeld lo all kept (all_series all kept)
 each_held lo [] kept may = may
 each_held lo (o ∷ all) [] may = absurd may
-each_held lo (o ∷ all) (leaves ∷ kept) may = (record { name = refl; had = leaves; later = []; closed = sym (append-nil leaves); count = omega arith; kept_is = sym may.0.live }, each_held lo all kept may.1)
+each_held lo (o ∷ all) (leaves ∷ kept) may = (record { name = refl; had = leaves; later = []; closed = sym (append-nil leaves); count = omega arith; rest = []; points = refl; kept_is = sym may.0.live }, each_held lo all kept may.1)
 
 pub opened_valid : (v : View) → IsMeta v.content → AreOpenable v.content.ordinals.lo v.content.series v.kept → IsWorld (world_of v)
 opened_valid v is may = record {

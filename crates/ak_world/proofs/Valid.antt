@@ -11,18 +11,28 @@ use Rattle.ak_meta.specs.Contents.{IsMeta, IsSeries}
 use Rattle.ak_meta.specs.declared.meta.SeriesMeta.{SeriesMeta}
 use Rattle.ak_volumes.proofs.Switching.{AreOrdinals-switched}
 use Rattle.ak_volumes.specs.Ordinals.{Ordinals, AreOrdinals, IsLive, newest, newest_fill, address, ordinal_of, index_of, filled, switched}
-use Rattle.ak_world.specs.Leaves.{Leaf, Series, new_series, with_point, closed_at, leaf_at, leaves_from}
+use Rattle.ak_world.specs.Leaves.{Leaf, Series, new_series, with_point, closed_at, leaf_at, leaves_from, points_of}
 use Rattle.ak_world.specs.Views.{View, last_time, known_of, all_known}
 use Rattle.ak_world.specs.Worlds.{World, views_of, limits_of, worn_world, next_view, after_view, time_of}
 use Rattle.ak_world.specs.Steps.{changed, written_in, last_at, switch, entered, added, but}
 use Rattle.ak_world.specs.Puts.{with_name}
 use Rattle.ak_world.specs.Valid.{AreNumbered, last_now, IsSeriesOf, unknown, AreSeriesOf, IsHeld, AreHeld, IsPrefix, IsWorld}
 use Rattle.ak_world.proofs.ContentsOfLeaves.{after, time_more}
+use Rattle.ak_world.proofs.FrontPoints.{front_points}
 
 -- ---- Views
 
 held_one : (lo : ℕ) (o : SeriesMeta) (s : Series) → IsHeld lo (known_of o s) (leaves_from lo s.closed) s
-held_one lo o s = record { name = refl; had = s.closed; later = []; closed = sym (append-nil s.closed); count = omega arith; kept_is = refl }
+held_one lo o s = record {
+  name = refl;
+  had = s.closed;
+  later = [];
+  closed = sym (append-nil s.closed);
+  count = omega arith;
+  rest = s.written;
+  points = refl;
+  kept_is = refl;
+}
 
 -- a view that is taken now holds all that is live
 pub held_now : (lo : ℕ) (opened : List SeriesMeta) (ss : List Series) → AreHeld lo (all_known opened ss) (map (λ (s : Series). leaves_from lo s.closed) ss) ss
@@ -177,14 +187,18 @@ pub record Grows (s t : Series) : Type 0 where
   pub count : t.leaves ≡ s.leaves + length more
 
 grown : (lo : ℕ) (known : SeriesMeta) (kept : List Leaf) (s t : Series) → Grows s t → IsHeld lo known kept s → IsHeld lo known kept t
-grown lo known kept s t grows held = record {
-  name = held.name ∙ sym grows.name;
-  had = held.had;
-  later = held.later ++ grows.more;
-  closed = grows.closed ∙ ap (λ (l : List Leaf). l ++ grows.more) held.closed ∙ append_assoc held.had held.later grows.more;
-  count = omega (arith, held.count, grows.count, length-append held.later grows.more);
-  kept_is = held.kept_is;
-}
+grown lo known kept s t grows held =
+    let all : t.closed ≡ held.had ++ (held.later ++ grows.more) = grows.closed ∙ ap (λ (l : List Leaf). l ++ grows.more) held.closed ∙ append_assoc held.had held.later grows.more in
+    record {
+      name = held.name ∙ sym grows.name;
+      had = held.had;
+      later = held.later ++ grows.more;
+      closed = all;
+      count = omega (arith, held.count, grows.count, length-append held.later grows.more);
+      rest = points_of (held.later ++ grows.more) ++ t.written;
+      points = front_points t held.had (held.later ++ grows.more) all;
+      kept_is = held.kept_is;
+    }
 
 held_more : (lo : ℕ) (all : List SeriesMeta) (kept : List (List Leaf)) (ss : List Series) (n : ℕ) (f : Series → Series) → ((s : Series) → Grows s (f s)) → AreHeld lo all kept ss → AreHeld lo all kept (changed ss n f)
 held_more lo [] kept ss n f grows held = held

@@ -3,4 +3,5 @@ pub mod Views
 pub mod Worlds
 pub mod Steps
 pub mod Puts
+pub mod Accepted
 pub mod Valid

@@ -6,7 +6,7 @@ use Rattle.ak_base.specs.declared.point.Point.{Point}
 use Rattle.ak_meta.specs.Contents.{IsMeta}
 use Rattle.ak_meta.specs.declared.meta.SeriesMeta.{SeriesMeta}
 use Rattle.ak_volumes.specs.Ordinals.{Ordinals, AreOrdinals, IsLive}
-use Rattle.ak_world.specs.Leaves.{Leaf, Series, leaves_from}
+use Rattle.ak_world.specs.Leaves.{Leaf, Series, leaves_from, points_of, accepted_points}
 use Rattle.ak_world.specs.Steps.{is_empty, written_in}
 use Rattle.ak_world.specs.Views.{View, last_time, known_of}
 use Rattle.ak_world.specs.Worlds.{World, views_of, limits_of, time_of}
@@ -69,13 +69,16 @@ AreSeriesOf (o ∷ opened) (s ∷ ss) = IsSeriesOf o s × AreSeriesOf opened ss
 -- ---- Views of a world
 
 -- Of the closed leaves of a series, those it had when the view was taken stand first, as many as its record says, and those
--- that were closed later behind them. The view holds the live ones of the first.
+-- that were closed later behind them. So the points of the first are a prefix of those that were accepted. The view holds the
+-- live ones of the first.
 pub record IsHeld (lo : ℕ) (known : SeriesMeta) (kept : List Leaf) (s : Series) : Type 0 where
   pub name : known.name ≡ s.name
   pub had : List Leaf
   pub later : List Leaf
   pub closed : s.closed ≡ had ++ later
   pub count : known.leaves + length later ≡ s.leaves
+  pub rest : List Point
+  pub points : accepted_points s ≡ points_of had ++ rest
   pub kept_is : kept ≡ leaves_from lo had
 
 -- so a view holds the leaves of each series of its record; series behind those came later
