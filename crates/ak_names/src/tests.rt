@@ -114,5 +114,10 @@ fn numbers(rt: HostRuntime) -> Result<(), AllocError> {
     assert!(rt; index.add(alloc, &second)? == 1);
     assert!(rt; index.id(&first) == Some(0));
     assert!(rt; index.id(&second) == Some(1));
+    assert!(rt; index.id_of(b"cpu host=a") == Some(0));
+    assert!(rt; index.id_of(b"cpu host=b") == Some(1));
+    // a text that names the second, but isn't its name, and one that is no text
+    assert!(rt; index.id_of(b"cpu  host=b") == None);
+    assert!(rt; index.id_of(b"cpu host=b\xff") == None);
     Ok(())
 }

@@ -152,7 +152,8 @@ fn part_at_front(bytes: &[u8]) -> Option<Front<'_>>
     None
 }
 
-/// The put that stands at the front of the bytes, and how many bytes spell it. None where there is no such one.
+/// The put that stands at the front of the bytes, and how many bytes spell it. It has a name that is no control, a time of
+/// at most 4095 digits, and a value that is simple or an integer of as many. None says nothing of the bytes.
 #[tactic(auto, using(crate::proofs::Texts::put_spelled))]
 pub fn whole_put(bytes: &[u8]) -> Option<(WholePut<'_>, usize)>
     ensures spells { IfSome result (λ r. Spells (take r.1 bytes.now) (put_of r.0)) }

@@ -146,7 +146,9 @@ impl Resp {
     }
 
     /// The put that stands whole in the piece from `at` on, where no message has begun and no fault was met. `at` moves past
-    /// it, and the reader stands for the stream with its message read. Elsewhere nothing changes.
+    /// it, and the reader stands for the stream with its message read. It takes no memory.
+    ///
+    /// None may come anywhere: it says nothing of the bytes. It changes nothing, and `feed` then reads them.
     pub fn whole<'a>(&mut self, piece: &'a [u8], at: &mut usize) -> Option<WholePut<'a>>
         requires { at.old ≤ length piece.now }
         ensures within { at.new ≤ length piece.now }

@@ -150,6 +150,75 @@ fn reads_parts(rt: HostRuntime) -> Result<(), Fail> {
     Ok(())
 }
 
+// How many bytes a put takes that stands whole at the front, and 0 where none is taken.
+fn whole_length(alloc: Global, stream: &[u8]) -> Result<usize, AllocError> {
+    let mut reader = Resp::new(alloc)?;
+    let mut at = 0;
+    match reader.whole(stream, &mut at) {
+        Some(_) => Ok(at),
+        None => Ok(0),
+    }
+}
+
+#[test]
+fn takes_whole_puts(rt: HostRuntime) -> Result<(), Fail> {
+    let alloc = rt.alloc();
+    let streams: [(&[u8], usize); 14] = [
+        (b"+a\r\n:1\r\n:2\r\n+b", 12),
+        (b"+a b=c\r\n:-1\r\n+2.5 x\r\n", 21),
+        (b"+\r\n:+1\r\n+\r\n", 11),
+        // other parts
+        (b"$1\r\na\r\n:1\r\n:2\r\n", 0),
+        (b"+a\r\n+1\r\n:2\r\n", 0),
+        (b"+a\r\n:1\r\n$1\r\n2\r\n", 0),
+        (b"+a\r\n:1\r\n*1\r\n:2\r\n", 0),
+        (b"+!a\r\n:1\r\n:2\r\n", 0),
+        // a put that goes on in the next piece
+        (b"", 0),
+        (b"+a\r\n:1\r\n:2\r", 0),
+        // faults
+        (b"+a\r\n:1x\r\n:2\r\n", 0),
+        (b"+a\r\n:1\r\n:\r\n", 0),
+        (b"+a\r\n:1\r\n+2\n", 0),
+        (b"+a\r:1\r\n:2\r\n", 0),
+    ];
+    for (stream, length) in streams {
+        assert_eq!(rt; whole_length(alloc, stream)?, length);
+    }
+    Ok(())
+}
+
+// A put is taken between messages alone, and what comes behind it is counted on.
+#[test]
+fn takes_whole_puts_in_a_stream(rt: HostRuntime) -> Result<(), Fail> {
+    let alloc = rt.alloc();
+    let piece = b"+!flush\r\n+cpu host=a\r\n:100\r\n+-1.5\r\n+b\r\n:1\r\n:2\r\n?+a\r\n:1\r\n:2\r\n";
+    let mut reader = Resp::new(alloc)?;
+    let mut at = 0;
+    assert!(rt; reader.whole(piece, &mut at).is_none());
+    assert_eq!(rt; at, 0);
+    let flush = reader.feed(alloc, piece, &mut at)?.ok_or("no flush")?;
+    assert_eq!(rt; shape(&flush), "flush");
+    let put = reader.whole(piece, &mut at).ok_or("no put")?;
+    assert_eq!(rt; at, 35);
+    assert_eq!(rt; put.name, b"cpu host=a".as_slice());
+    assert_eq!(rt; put.time, b"100".as_slice());
+    assert!(rt; put.kind == PartKind::Simple);
+    assert_eq!(rt; put.value, b"-1.5".as_slice());
+    // the front of a put begins a message
+    let mut front = 0;
+    assert!(rt; reader.feed(alloc, b"+b\r\n", &mut front)?.is_none());
+    assert!(rt; reader.whole(piece, &mut at).is_none());
+    at = 39;
+    let put = reader.feed(alloc, piece, &mut at)?.ok_or("no put")?;
+    assert_eq!(rt; shape(&put), "put");
+    let fault = Some(Refusal::BadKind { at: 47 });
+    assert_eq!(rt; refusal_in(reader.feed(alloc, piece, &mut at))?, fault);
+    assert!(rt; reader.whole(piece, &mut at).is_none());
+    assert_eq!(rt; at, 48);
+    Ok(())
+}
+
 #[test]
 fn reads_each_byte(rt: HostRuntime) -> Result<(), Fail> {
     let alloc = rt.alloc();

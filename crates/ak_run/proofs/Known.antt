@@ -1,11 +1,13 @@
 -- A put of a canonical name asks for a point of it.
-use Rattle.std.proofs.Common.{ℕ, ℤ, ◌==◌, ◌≡◌, ◌+◌, ◌++◌, List, [], ◌∷◌, length, inr, refl, sym, ap, ◌∙◌, subst, arith, Ok, Some}
+use Rattle.std.proofs.Common.{ℕ, ℤ, ◌==◌, ◌≡◌, ◌⊎◌, ◌+◌, ◌++◌, List, [], ◌∷◌, length, inl, inr, refl, sym, ap, ◌∙◌, subst, arith, Ok, Err, Some}
 use Rattle.std.specs.List.{count_by}
 use Rattle.std.proofs.lemmas.List.{length-map}
 use Rattle.std.proofs.lemmas.List.Splits.{length-slice_split}
+use Rattle.ak_base.specs.declared.refusal.Refusal.{Refusal}
+use Rattle.ak_base.specs.declared.refusal.Refusal.TheVariants.{BadValue, ValueRange}
 use Rattle.ak_base.specs.Values.{IsValue, ReadsValue}
 use Rattle.ak_names.specs.Names.{words_of, metric_count, metrics_of, tail_of, DoesName}
-use Rattle.ak_run.specs.declared.asked.Asked.TheVariants.{Points}
+use Rattle.ak_run.specs.declared.asked.Asked.TheVariants.{Points, Refused}
 use Rattle.ak_run.specs.Asking.{PutAsks, TimeGives}
 
 pub one_metric : (text name : List ℕ) → DoesName text (name ∷ []) → 1 ≡ metric_count (words_of text)
@@ -20,3 +22,15 @@ pub known_asks : (scale : ℕ) (name time value : List ℕ) (ts : ℕ) (v : ℤ)
     → PutAsks scale name time (value ∷ []) (Points (name ∷ []) ts (v ∷ []))
 known_asks scale name time value ts v named gives reads is =
     inr (one_metric name name named, Some (name ∷ []), named, (Ok ts, gives, (Ok (v ∷ []), ((v, [], refl, reads, refl), (is, tt)), refl)))
+
+pub bad_time : (scale : ℕ) (name time value : List ℕ) (e : Refusal) → DoesName name (name ∷ []) → TimeGives time (Err e) → PutAsks scale name time (value ∷ []) (Refused e)
+bad_time scale name time value e named gives = inr (one_metric name name named, Some (name ∷ []), named, (Err e, gives, refl))
+
+pub bad_value : (scale : ℕ) (name time value : List ℕ) (ts : ℕ) (e : Refusal) → DoesName name (name ∷ []) → TimeGives time (Ok ts)
+    → (e ≡ BadValue) ⊎ (e ≡ ValueRange) → (e ≡ BadValue → (v : ℤ) → ¬ (ReadsValue value scale v))
+    → (e ≡ ValueRange → (v : ℤ) × ReadsValue value scale v × ¬ (IsValue v)) → PutAsks scale name time (value ∷ []) (Refused e)
+bad_value scale name time value ts e named gives (inl h) bad range =
+    inr (one_metric name name named, Some (name ∷ []), named, (Ok ts, gives, (Err e, inl (h, λ vs k. bad h k.0 k.3), refl)))
+bad_value scale name time value ts e named gives (inr h) bad range =
+    let k = range h in
+    inr (one_metric name name named, Some (name ∷ []), named, (Ok ts, gives, (Err e, inr (h, k.0 ∷ [], (k.0, [], refl, k.1, refl), λ all. k.2 all.0), refl)))

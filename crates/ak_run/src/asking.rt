@@ -1,5 +1,5 @@
 //! What a message asks for.
-ghost use Rattle.std.specs.Prelude.{◌≡◌, ◌≤◌, ◌∷◌, [], map, Some, Ok, IfOk, IfSome};
+ghost use Rattle.std.specs.Prelude.{◌≡◌, ◌≤◌, ◌∷◌, [], map, Some, Ok, IfOk, IfSome, IfNone};
 ghost use Rattle.ak_names.specs.Names.{DoesName};
 ghost use Rattle.ak_run.specs.Asking.{Asks, PutAsks, OnNames, OnTime};
 ghost use Rattle.ak_run.specs.Fitting.{IsAllowed};
@@ -93,18 +93,19 @@ pub fn ask(alloc: Global, message: &Message, scale: u32) -> Result<Asked, AllocE
     }
 }
 
-/// What a put of a canonical name, and of one value, asks for. None where it asks for a refusal.
-#[tactic(auto, using(crate::proofs::Known::known_asks))]
+/// What a put of a canonical name, and of one value, asks for: a point with its time in nanoseconds since the beginning of
+/// 1970, and its value in units of 10^-scale. None exactly where it asks for a refusal, which `ask` tells.
 pub fn ask_known(name: &[u8], time: &[u8], value: &[u8], scale: u32) -> Option<Point>
     requires scale { scale ≤ 9 }
     requires canonical { DoesName name.now (name.now ∷ []) }
-    ensures { IfSome result (λ p. PutAsks scale name.now time.now (value.now ∷ []) (Asked.Points (name.now ∷ []) p.ts (p.value ∷ []))) }
+    ensures some { IfSome result (λ p. PutAsks scale name.now time.now (value.now ∷ []) (Asked.Points (name.now ∷ []) p.ts (p.value ∷ []))) }
+    ensures none { IfNone result ((refusal : Refusal) × PutAsks scale name.now time.now (value.now ∷ []) (Asked.Refused refusal)) }
 {
-    let Ok(ts) = read_put_time(time) else {
-        return None;
-    };
-    let Ok(value) = read_value(value, scale) else {
-        return None;
-    };
-    Some(Point { ts, value })
+    match read_put_time(time) {
+        Ok(ts) => match read_value(value, scale) {
+            Ok(value) => Some(Point { ts, value }),
+            Err(_refusal) => None,
+        },
+        Err(_refusal) => None,
+    }
 }

@@ -1,4 +1,5 @@
-ghost use Rattle.std.specs.Prelude.{◌≤◌};
+ghost use Rattle.std.specs.Prelude.{◌≤◌, IfOk};
+ghost use Rattle.ak_run.specs.Fitting.{IsAllowed};
 
 use super::*;
 use crate::replies::write_row;
@@ -17,7 +18,9 @@ fn part(alloc: Global, text: &[u8]) -> Result<Part, AllocError> {
 }
 
 // What a put of values, which are split at spaces, asks for at scale 3.
-fn ask_put(alloc: Global, name: &[u8], time: &[u8], values: &str) -> Result<Asked, AllocError> {
+fn ask_put(alloc: Global, name: &[u8], time: &[u8], values: &str) -> Result<Asked, AllocError>
+    ensures { IfOk result IsAllowed }
+{
     let mut parts = Parts::new(alloc);
     for value in values.split(' ') {
         parts.push(alloc, part(alloc, value.as_bytes())?)?;
@@ -76,6 +79,44 @@ fn points(rt: HostRuntime) -> Result<(), AllocError> {
         _ => false,
     };
     assert!(rt; is);
+    Ok(())
+}
+
+// What a put of one value asks for at scale 3, whose name is canonical.
+fn known(
+    alloc: Global,
+    name: &[u8],
+    time: &[u8],
+    value: &[u8],
+) -> Result<Option<Point>, AllocError> {
+    if let Asked::Points { names, .. } = ask_put(alloc, name, b"1", "1")? {
+        if let [only] = names.as_slice() {
+            return Ok(ask_known(only.as_str().as_bytes(), time, value, 3));
+        }
+    }
+    Ok(None)
+}
+
+#[test]
+fn known_puts(rt: HostRuntime) -> Result<(), AllocError> {
+    let puts: [(&[u8], &[u8], Option<Point>); 6] = [
+        (b"7", b"1.5", Some(Point { ts: 7, value: 1500 })),
+        (
+            b"+0",
+            b"-2",
+            Some(Point {
+                ts: 0,
+                value: -2000,
+            }),
+        ),
+        (b"-1", b"1", None),
+        (b"20141210T074343", b"1", None),
+        (b"7", b"1.0001", None),
+        (b"7", b"9223372036854776", None),
+    ];
+    for (time, value, point) in puts {
+        assert!(rt; known(rt.alloc(), b"cpu host=a", time, value)? == point);
+    }
     Ok(())
 }
 

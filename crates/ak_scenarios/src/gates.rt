@@ -40,7 +40,10 @@ fn frame(length: u8, more: u8, number: u8, payload: u8) -> Block {
 }
 
 // The number, the slot, the payload's length and its first byte.
-fn opened(alloc: Global, disk: &mut MemHost) -> Result<(u64, u32, usize, Option<u8>), Stop> {
+pub(crate) fn opened(
+    alloc: Global,
+    disk: &mut MemHost,
+) -> Result<(u64, u32, usize, Option<u8>), Stop> {
     let (gate, payload) = Gate::open(alloc, disk)?;
     Ok((
         gate.number(),

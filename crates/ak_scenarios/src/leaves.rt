@@ -1,6 +1,7 @@
 //! Leaves on the disk, and what fills a store.
 ghost use Rattle.std.specs.Prelude.{◌≡◌, ◌<◌, true, length, slice_index};
 
+use crate::gates::opened;
 use crate::stops::{NO_POINT, ONE_POINT, QUERY, RUN, call, last_moment, made, perform, shows};
 use crate::tests::cut;
 use ak_base::{Addr, Bytes};
@@ -13,15 +14,62 @@ use std::test::Fail;
 
 const CREATE: &str = "create d --volumes 2 --blocks 16 --slot 1 --pool 4 --every 1000 --scale 0";
 
+// A put of one value.
+pub(crate) fn put(
+    alloc: Global,
+    stream: &mut Bytes,
+    name: &[u8],
+    time: u64,
+    value: &[u8],
+) -> Result<(), AllocError> {
+    stream.extend(alloc, b"+")?;
+    stream.extend(alloc, name)?;
+    stream.extend(alloc, b"\r\n:")?;
+    stream.extend_decimal(alloc, time)?;
+    stream.extend(alloc, b"\r\n:")?;
+    stream.extend(alloc, value)?;
+    stream.extend(alloc, b"\r\n")
+}
+
+// The row of its point.
+pub(crate) fn row(
+    alloc: Global,
+    text: &mut Bytes,
+    name: &[u8],
+    time: u64,
+    value: &[u8],
+) -> Result<(), AllocError> {
+    text.extend(alloc, name)?;
+    text.extend(alloc, b",")?;
+    text.extend_decimal(alloc, time)?;
+    text.extend(alloc, b",")?;
+    text.extend(alloc, value)?;
+    text.extend(alloc, b"\n")
+}
+
+// The answer to a query that gives these rows.
+pub(crate) fn answered(alloc: Global, text: &[u8]) -> Result<Bytes, AllocError> {
+    let mut answer = Bytes::new(alloc);
+    answer.extend(alloc, b"$")?;
+    answer.extend_decimal(alloc, text.len() as u64)?;
+    answer.extend(alloc, b"\r\n")?;
+    answer.extend(alloc, text)?;
+    answer.extend(alloc, b"\r\n")?;
+    Ok(answer)
+}
+
+pub(crate) fn decimal(alloc: Global, number: u64) -> Result<Bytes, AllocError> {
+    let mut digits = Bytes::new(alloc);
+    digits.extend_decimal(alloc, number)?;
+    Ok(digits)
+}
+
 // A point of `cpu` at each time from 1 on, with two values in turn.
 fn points(alloc: Global, count: u64, values: [&[u8]; 2]) -> Result<Bytes, AllocError> {
     let mut stream = Bytes::new(alloc);
     for time in 1..count.saturating_add(1) {
-        stream.extend(alloc, b"+cpu\r\n:")?;
-        stream.extend_decimal(alloc, time)?;
-        stream.extend(alloc, b"\r\n:")?;
-        stream.extend(alloc, if time % 2 == 1 { values[0] } else { values[1] })?;
-        stream.extend(alloc, b"\r\n")?;
+        let value = if time % 2 == 1 { values[0] } else { values[1] };
+        put(alloc, &mut stream, b"cpu", time, value)?;
     }
     Ok(stream)
 }
@@ -30,19 +78,10 @@ fn points(alloc: Global, count: u64, values: [&[u8]; 2]) -> Result<Bytes, AllocE
 fn rows(alloc: Global, count: u64, values: [&[u8]; 2]) -> Result<Bytes, AllocError> {
     let mut text = Bytes::new(alloc);
     for time in 1..count.saturating_add(1) {
-        text.extend(alloc, b"cpu,")?;
-        text.extend_decimal(alloc, time)?;
-        text.extend(alloc, b",")?;
-        text.extend(alloc, if time % 2 == 1 { values[0] } else { values[1] })?;
-        text.extend(alloc, b"\n")?;
+        let value = if time % 2 == 1 { values[0] } else { values[1] };
+        row(alloc, &mut text, b"cpu", time, value)?;
     }
-    let mut answer = Bytes::new(alloc);
-    answer.extend(alloc, b"$")?;
-    answer.extend_decimal(alloc, text.as_slice().len() as u64)?;
-    answer.extend(alloc, b"\r\n")?;
-    answer.extend(alloc, text.as_slice())?;
-    answer.extend(alloc, b"\r\n")?;
-    Ok(answer)
+    answered(alloc, text.as_slice())
 }
 
 // A leaf takes 2016 points of two bytes, or 366 of eleven. One point more is one write more: the end of the run closes the
@@ -106,49 +145,78 @@ fn more_series_than_frames(rt: HostRuntime) -> Result<(), Fail> {
 fn rows_between(alloc: Global, from: u64, to: u64) -> Result<Bytes, AllocError> {
     let mut text = Bytes::new(alloc);
     for time in from..to {
-        text.extend(alloc, b"cpu,")?;
-        text.extend_decimal(alloc, time)?;
-        text.extend(alloc, b",")?;
-        text.extend_decimal(alloc, time)?;
-        text.extend(alloc, b"\n")?;
+        let value = decimal(alloc, time)?;
+        row(alloc, &mut text, b"cpu", time, value.as_slice())?;
     }
-    let mut answer = Bytes::new(alloc);
-    answer.extend(alloc, b"$")?;
-    answer.extend_decimal(alloc, text.as_slice().len() as u64)?;
-    answer.extend(alloc, b"\r\n")?;
-    answer.extend(alloc, text.as_slice())?;
-    answer.extend(alloc, b"\r\n")?;
-    Ok(answer)
+    answered(alloc, text.as_slice())
 }
 
-// How many reads a run makes that does nothing but open the store.
-fn reads_of_opening<R: Abort>(rt: &R, alloc: Global, host: &mut MemHost) -> Result<u64, Fail> {
-    let status = call(alloc, host, RUN, b"")?;
+// How many reads an opening of the store makes, which has two views.
+fn reads_of_opening<R: Abort>(rt: &R, alloc: Global, host: &MemHost) -> Result<u64, Fail> {
+    let mut image = host.image(alloc, last_moment(host), &[])?;
+    let status = call(alloc, &mut image, RUN, b"")?;
     assert_eq!(rt; status, 0);
-    Ok(host.reads())
+    Ok(image.reads())
+}
+
+// The number of the view that a stop at a moment leaves.
+fn view_at(alloc: Global, host: &MemHost, moment: u64) -> Result<Option<u64>, Fail> {
+    let mut image = host.image(alloc, moment, &[])?;
+    match opened(alloc, &mut image) {
+        Ok((number, _, _, _)) => Ok(Some(number)),
+        Err(_) => Ok(None),
+    }
+}
+
+// The first moment at which port 1 was told all that it is told.
+fn all_told(host: &MemHost) -> u64 {
+    let all = host.told(1).len() as u64;
+    for moment in 0..host.moments() {
+        if host.told_at(1, moment) == all {
+            return moment;
+        }
+    }
+    host.moments()
+}
+
+// A run in which a point and a flush come for each time from one on and below another, and then a query that gives the
+// points kept of them.
+fn reused<R: Abort>(
+    rt: &R,
+    alloc: Global,
+    host: &mut MemHost,
+    times: (u64, u64),
+    kept: u64,
+) -> Result<Bytes, Fail> {
+    let (from, to) = times;
+    let answer = rows_between(alloc, kept, to)?;
+    flushed(rt, alloc, host, (from, to), QUERY, answer.as_slice())?;
+    shows(rt, alloc, host, last_moment(host), &[], answer.as_slice())?;
+    Ok(answer)
 }
 
 // Leaves 0 to 15 fill ordinal 0, and leaves 16 to 30 all but one block of ordinal 1. The group of leaf 31 has two blocks, and
 // ordinal 2 takes the place of ordinal 0. So the leaves 0 to 15 are lost, and an opening reads the node of level 1 alone. Leaf 46
-// gives up ordinal 1. An opening reads that node again, and the 16 leaves behind it.
+// gives up ordinal 1. An opening reads that node again, and the 16 leaves behind it. The first view is that of the new store,
+// and one is taken by each flush, at each of the two switches and at the end.
 #[test]
 fn the_oldest_volume_is_reused(rt: HostRuntime) -> Result<(), Fail> {
     let alloc = rt.alloc();
     let mut host = made(&rt, alloc, CREATE)?;
-    let _ = reads_of_opening(&rt, alloc, &mut host)?;
-    let least = reads_of_opening(&rt, alloc, &mut host)?;
-    flushed(&rt, alloc, &mut host, 1, 33)?;
-    let reads = reads_of_opening(&rt, alloc, &mut host)?;
+    let _ = call(alloc, &mut host, RUN, b"")?;
+    let least = reads_of_opening(&rt, alloc, &host)?;
+    let mut host = made(&rt, alloc, CREATE)?;
+    let answer = reused(&rt, alloc, &mut host, (1, 33), 17)?;
+    assert!(rt; answer.as_slice().starts_with(b"$160\r\n"));
+    assert_eq!(rt; view_at(alloc, &host, all_told(&host))?, Some(35));
+    assert_eq!(rt; view_at(alloc, &host, last_moment(&host))?, Some(36));
+    let reads = reads_of_opening(&rt, alloc, &host)?;
     assert_eq!(rt; reads.saturating_sub(least), 1);
-    let answer = rows_between(alloc, 17, 33)?;
-    let end = last_moment(&host);
-    shows(&rt, alloc, &host, end, &[], answer.as_slice())?;
-    flushed(&rt, alloc, &mut host, 33, 49)?;
-    let reads = reads_of_opening(&rt, alloc, &mut host)?;
+    let answer = reused(&rt, alloc, &mut host, (33, 49), 32)?;
+    assert!(rt; answer.as_slice().starts_with(b"$170\r\n"));
+    let reads = reads_of_opening(&rt, alloc, &host)?;
     assert_eq!(rt; reads.saturating_sub(least), 17);
-    let answer = rows_between(alloc, 32, 49)?;
-    let end = last_moment(&host);
-    shows(&rt, alloc, &host, end, &[], answer.as_slice())
+    Ok(())
 }
 
 // 31 series with names of 20 bytes take 3970 of the 4096 bytes of a slot. One with 21 bytes is refused, and one with 20
@@ -236,28 +304,33 @@ fn a_zeroed_leaf_is_told(rt: HostRuntime) -> Result<(), Fail> {
     Ok(())
 }
 
-// A store with 64 blocks to a volume, in which leaves of one point each were closed by flushes: the point of each has a time
-// and a value, from these on.
+// A run in which leaves of one point each are closed by flushes: the point of each has a time and a value, from one on and below
+// another. Each flush is told, and then a query is answered so.
 fn flushed<R: Abort>(
     rt: &R,
     alloc: Global,
     host: &mut MemHost,
-    from: u64,
-    to: u64,
+    times: (u64, u64),
+    query: &[u8],
+    answer: &[u8],
 ) -> Result<(), Fail> {
     let mut stream = Bytes::new(alloc);
-    for time in from..to {
-        stream.extend(alloc, b"+cpu\r\n:")?;
-        stream.extend_decimal(alloc, time)?;
-        stream.extend(alloc, b"\r\n:")?;
-        stream.extend_decimal(alloc, time)?;
-        stream.extend(alloc, b"\r\n+!flush\r\n")?;
+    let mut told = Bytes::new(alloc);
+    for time in times.0..times.1 {
+        let value = decimal(alloc, time)?;
+        put(alloc, &mut stream, b"cpu", time, value.as_slice())?;
+        stream.extend(alloc, b"+!flush\r\n")?;
+        told.extend(alloc, b"+OK\r\n")?;
     }
+    stream.extend(alloc, query)?;
+    told.extend(alloc, answer)?;
     let status = call(alloc, host, RUN, stream.as_slice())?;
     assert_eq!(rt; status, 0);
+    assert_eq!(rt; host.told(1), told.as_slice());
     Ok(())
 }
 
+// A store with 64 blocks to a volume.
 const CREATE_WIDER: &str =
     "create d --volumes 2 --blocks 64 --slot 1 --pool 4 --every 1000 --scale 0";
 
@@ -277,7 +350,7 @@ fn inner_node(host: &mut MemHost, index: u32, level: u8, number: u64) -> Option<
 fn an_inner_node_behind_leaves(rt: HostRuntime) -> Result<(), Fail> {
     let alloc = rt.alloc();
     let mut host = made(&rt, alloc, CREATE_WIDER)?;
-    flushed(&rt, alloc, &mut host, 1, 33)?;
+    flushed(&rt, alloc, &mut host, (1, 33), b"", b"")?;
     let Some(node) = inner_node(&mut host, 32, 1, 0) else {
         assert!(rt; false);
         return Ok(());
@@ -298,8 +371,8 @@ fn an_inner_node_behind_leaves(rt: HostRuntime) -> Result<(), Fail> {
 fn an_inner_node_over_two_runs(rt: HostRuntime) -> Result<(), Fail> {
     let alloc = rt.alloc();
     let mut host = made(&rt, alloc, CREATE_WIDER)?;
-    flushed(&rt, alloc, &mut host, 1, 11)?;
-    flushed(&rt, alloc, &mut host, 11, 33)?;
+    flushed(&rt, alloc, &mut host, (1, 11), b"", b"")?;
+    flushed(&rt, alloc, &mut host, (11, 33), b"", b"")?;
     let Some(node) = inner_node(&mut host, 32, 1, 0) else {
         assert!(rt; false);
         return Ok(());
@@ -328,7 +401,7 @@ fn zeroed(alloc: Global, host: &mut MemHost, index: u32) -> Result<bool, AllocEr
 fn a_zeroed_node_is_told(rt: HostRuntime) -> Result<(), Fail> {
     let alloc = rt.alloc();
     let mut host = made(&rt, alloc, CREATE_WIDER)?;
-    flushed(&rt, alloc, &mut host, 1, 33)?;
+    flushed(&rt, alloc, &mut host, (1, 33), b"", b"")?;
     assert!(rt; zeroed(alloc, &mut host, 5)?);
     assert_eq!(rt; call(alloc, &mut host, RUN, b"")?, 0);
     assert_eq!(rt; call(alloc, &mut host, RUN, QUERY)?, 2);
