@@ -2,4 +2,5 @@ pub mod Bodies
 pub mod Elsewhere
 pub mod Frames
 pub mod Records
+pub mod Sizes
 pub mod Stores

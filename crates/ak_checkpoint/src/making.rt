@@ -1,5 +1,5 @@
 //! Makes a store.
-ghost use Rattle.std.specs.Prelude.{◌≡◌, ◌⊎◌, ◌+◌, ◌-◌, ◌*◌, ◌^◌, ◌<◌, ◌≤◌, ◌↔◌, ℕ, true, false, length, slice_index, Some, OnOk, IfOk, IfErr, IsTrue};
+ghost use Rattle.std.specs.Prelude.{◌≡◌, ◌⊎◌, ◌+◌, ◌-◌, ◌*◌, ◌^◌, ◌<◌, ◌≤◌, ◌↔◌, ◌++◌, ℕ, true, false, length, take, drop, replicate, slice_index, Some, OnOk, IfOk, IfErr, IsTrue};
 ghost use Rattle.ak_base.specs.Ranges.{AreLimits};
 ghost use Rattle.ak_host.specs.Files.{Files, file_at, block_at, zero_blocks};
 ghost use Rattle.ak_host.specs.Moments.{DiskPasses, IsStable, LeavesNow};
@@ -9,7 +9,7 @@ ghost use Rattle.ak_gate.specs.Opening.{IsWhole};
 ghost use Rattle.ak_meta.specs.Leaves.{first_content};
 ghost use Rattle.ak_record.specs.Records.{HasNewest, Rests, frame_for, frame_bytes};
 ghost use Rattle.ak_record.specs.Stops.{IsNoStore, IsTaken, IsDiskStop, IsMakeStop, AreMade};
-ghost use Rattle.ak_checkpoint.specs.Making.{AreEmpty, IsMade};
+ghost use Rattle.ak_checkpoint.specs.Making.{AreEmpty, IsMade, KeepsDisk, made_sizes};
 
 use crate::checkpoint::Checkpoint;
 use ak_base::{Limits, Stop};
@@ -41,6 +41,7 @@ fn is_open_at<D: Disk>(disk: &mut D, index: u32) -> Result<bool, Stop>
 fn is_taken<D: Disk>(disk: &mut D) -> Result<bool, Stop>
     ensures err { IfErr result (IsDiskStop (D.state disk.old) (D.state disk.new)) }
     ensures taken { D.tells → IfOk result (λ taken. IsTrue taken ↔ IsTaken (D.state disk.old).files) }
+    ensures sizes { (D.state disk.new).sizes ≡ (D.state disk.old).sizes }
     ensures later { (D.state disk.old).disk_faults ≤ (D.state disk.new).disk_faults }
     ensures port_faults { (D.state disk.new).port_faults ≡ (D.state disk.old).port_faults }
     ensures files { D.tells → (D.state disk.new).files ≡ (D.state disk.old).files }
@@ -64,6 +65,8 @@ fn make_volumes<D: Disk>(disk: &mut D, limits: &Limits) -> Result<(), Stop>
     ensures number { OnOk result (limits.now.volumes < length (D.state disk.new).sizes) }
     ensures first { OnOk result (slice_index (D.state disk.new).sizes 0 ≡ slice_index (D.state disk.old).sizes 0) }
     ensures volumes { OnOk result ((file : ℕ) → 1 ≤ file → file ≤ limits.now.volumes → slice_index (D.state disk.new).sizes file ≡ limits.now.blocks) }
+    ensures sizes { OnOk result ((D.state disk.new).sizes ≡ take 1 (D.state disk.old).sizes
+        ++ (replicate limits.now.volumes limits.now.blocks ++ drop (1 + limits.now.volumes) (D.state disk.old).sizes)) }
     ensures later { (D.state disk.old).disk_faults ≤ (D.state disk.new).disk_faults }
     ensures port_faults { (D.state disk.new).port_faults ≡ (D.state disk.old).port_faults }
     ensures same { D.tells → OnOk result (file_at (D.state disk.new).files 0 ≡ file_at (D.state disk.old).files 0) }
@@ -83,6 +86,7 @@ fn make_files<D: Disk>(disk: &mut D, limits: &Limits) -> Result<(), Stop>
     requires { AreLimits limits.now }
     ensures err { IfErr result (IsDiskStop (D.state disk.old) (D.state disk.new)) }
     ensures made { OnOk result (AreMade limits.now (D.state disk.new).sizes) }
+    ensures sizes { OnOk result ((D.state disk.new).sizes ≡ made_sizes limits.now (D.state disk.old).sizes) }
     ensures later { (D.state disk.old).disk_faults ≤ (D.state disk.new).disk_faults }
     ensures port_faults { (D.state disk.new).port_faults ≡ (D.state disk.old).port_faults }
     ensures zeros { D.tells → OnOk result (file_at (D.state disk.new).files 0 ≡ zero_blocks (2 + 2 * limits.now.slot)) }
@@ -127,6 +131,9 @@ pub fn make_store<D: Disk>(
     ensures gate { IfOk result (λ store. IsWhole store.1.gate (D.state disk.new) × (store.1.gate.slot ≡ limits.now.slot) × (store.1.gate.number ≡ 1)) }
     ensures saved { IfOk result (λ store. (store.1.pending ≡ false) × (store.1.number ≡ 1)) }
     ensures made { IfOk result (λ store. AreMade limits.now (D.state disk.new).sizes) }
+    ensures sizes { OnOk result ((D.state disk.new).sizes ≡ made_sizes limits.now (D.state disk.old).sizes) }
+    // A store that is there already is left alone.
+    ensures kept { D.tells → IsTaken (D.state disk.old).files → KeepsDisk (D.state disk.old) (D.state disk.new) }
     ensures fits { D.tells → IfOk result (λ store. Fits store.1.gate (D.state disk.new)) }
     ensures rests { D.tells → IfOk result (λ store. Rests limits.now.slot (Some (frame_for 1 (first_content limits.now))) (D.state disk.new)) }
     ensures empty { D.tells → IfOk result (λ store. AreEmpty limits.now (D.state disk.new)) }

@@ -179,6 +179,16 @@ went_of (ended port) = More
 went_of idle = More
 went_of done = went.Done
 
+-- one turn was taken
+abbrev pub TakesOne : Mark → Mark → Type 0
+TakesOne start mark = (turn : Taken) × (mark.turns ≡ start.turns ++ turn ∷ [])
+
+-- One turn was taken, and this tells whether it was `Done`.
+pub record TakesTurn (start mark : Mark) (went : Went) : Type 0 where
+  pub turn : Taken
+  pub turns_are : mark.turns ≡ start.turns ++ turn ∷ []
+  pub went_is : went ≡ went_of turn
+
 -- After a turn was acted on. What `Done` asks for isn't done yet.
 abbrev pub AfterTaken : World → Taken → Mark → Mark → Node → HostState → Type 0
 AfterTaken world (piece port bytes) start mark node host = AfterAct world (piece port bytes) start mark node host

@@ -28,6 +28,7 @@ use std::alloc::Global;
 fn tell<H: Host>(host: &mut H, port: u32, bytes: &[u8]) -> Result<(), Stop>
     ensures stops { (was : Content) → HasStops H.tells was (H.state host.old) (H.state host.new) result }
     ensures silent { H.tells → 1 ≤ port → IsSilent (H.state host.old) (H.state host.new) }
+    ensures turns { H.tells → (mark_now (H.state host.new)).turns ≡ (mark_now (H.state host.old)).turns }
     ensures stop { IfErr result (λ stop. stop ≡ Stop.Port) }
     ensures told { H.tells → OnOk result (Told (mark_now (H.state host.old)) (mark_now (H.state host.new)) port bytes.now) }
     ensures reads { H.tells → (H.state host.new).reads ≡ (H.state host.old).reads }
@@ -48,6 +49,7 @@ fn tell<H: Host>(host: &mut H, port: u32, bytes: &[u8]) -> Result<(), Stop>
 pub fn refuse<H: Host>(alloc: Global, host: &mut H, port: u32, refusal: Refusal) -> Result<(), Stop>
     ensures stops { (was : Content) → HasStops H.tells was (H.state host.old) (H.state host.new) result }
     ensures silent { H.tells → 1 ≤ port → IsSilent (H.state host.old) (H.state host.new) }
+    ensures turns { H.tells → (mark_now (H.state host.new)).turns ≡ (mark_now (H.state host.old)).turns }
     ensures stop { IfErr result IsOutside }
     ensures told { H.tells → OnOk result (Told (mark_now (H.state host.old)) (mark_now (H.state host.new)) port (refusal_reply refusal)) }
     ensures reads { H.tells → (H.state host.new).reads ≡ (H.state host.old).reads }
@@ -78,6 +80,7 @@ fn points<H: Host>(
     ensures stops { HasStops H.tells keeper.old.forest.meta (H.state host.old) (H.state host.new) result }
     ensures becomes { H.tells → OnOk result (KeepsOrigins (H.state host.old) (H.state host.new) keeper.old.forest.meta keeper.new.forest.meta) }
     ensures silent { H.tells → 1 ≤ port → IsSilent (H.state host.old) (H.state host.new) }
+    ensures turns { H.tells → (mark_now (H.state host.new)).turns ≡ (mark_now (H.state host.old)).turns }
     ensures sound { IfErr result IsSoundStop }
     ensures ready { OnOk result (IsReady H.tells keeper.new (H.state host.new)) }
     ensures reads { H.tells → (H.state host.new).reads ≡ (H.state host.old).reads }
@@ -109,6 +112,7 @@ fn rows<H: Host>(
     ensures stops { HasStops H.tells keeper.old.forest.meta (H.state host.old) (H.state host.new) result }
     ensures becomes { H.tells → OnOk result (KeepsOrigins (H.state host.old) (H.state host.new) keeper.old.forest.meta keeper.new.forest.meta) }
     ensures silent { H.tells → 1 ≤ port → IsSilent (H.state host.old) (H.state host.new) }
+    ensures turns { H.tells → (mark_now (H.state host.new)).turns ≡ (mark_now (H.state host.old)).turns }
     ensures not_worn { OnWorn result (λ stop. ⊥) }
     ensures sound { H.tells → (content : Store) → Holds content keeper.old (H.state host.old) → IfErr result IsSoundStop }
     ensures ready { OnOk result (IsReady H.tells keeper.new (H.state host.new)) }
@@ -135,6 +139,7 @@ fn flush<H: Host>(alloc: Global, host: &mut H, keeper: &mut Keeper, port: u32) -
     ensures stops { HasStops H.tells keeper.old.forest.meta (H.state host.old) (H.state host.new) result }
     ensures becomes { H.tells → OnOk result (KeepsOrigins (H.state host.old) (H.state host.new) keeper.old.forest.meta keeper.new.forest.meta) }
     ensures silent { H.tells → 1 ≤ port → IsSilent (H.state host.old) (H.state host.new) }
+    ensures turns { H.tells → (mark_now (H.state host.new)).turns ≡ (mark_now (H.state host.old)).turns }
     ensures sound { IfErr result IsSoundStop }
     ensures reads { H.tells → (H.state host.new).reads ≡ (H.state host.old).reads }
     ensures ready { OnOk result (IsReady H.tells keeper.new (H.state host.new)) }
@@ -164,6 +169,7 @@ pub fn answer<H: Host>(
     ensures stops { HasStops H.tells keeper.old.forest.meta (H.state host.old) (H.state host.new) result }
     ensures becomes { H.tells → OnOk result (KeepsOrigins (H.state host.old) (H.state host.new) keeper.old.forest.meta keeper.new.forest.meta) }
     ensures silent { H.tells → 1 ≤ port → IsSilent (H.state host.old) (H.state host.new) }
+    ensures turns { H.tells → (mark_now (H.state host.new)).turns ≡ (mark_now (H.state host.old)).turns }
     ensures sound { H.tells → (content : Store) → Holds content keeper.old (H.state host.old) → IfErr result IsSoundStop }
     ensures reads { H.tells → IsNoRows asked → (H.state host.new).reads ≡ (H.state host.old).reads }
     ensures ready { OnOk result (IsReady H.tells keeper.new (H.state host.new)) }

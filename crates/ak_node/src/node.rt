@@ -9,7 +9,7 @@ ghost use Rattle.ak_run.specs.Sessions.{Session as Stream, stream_at, with_sessi
 ghost use Rattle.ak_meta.specs.Contents.{Content};
 ghost use Rattle.ak_node.specs.Calls.{HasStops, IsSilent, IsSoundStop, IsOutside};
 ghost use Rattle.ak_node.specs.Queries.{HasNoQueries, OnTurn};
-ghost use Rattle.ak_node.specs.Standing.{CanServe, Stands, HasRead, AreSessions, place_of, InAct, LeavesInAct, AfterAct, Wears, InEnd, AfterEnd, InEnds, AfterEnds, InTurn, LeavesInTurn, LeavesLast, AfterTaken, AfterTurn, WearsIn, went_after};
+ghost use Rattle.ak_node.specs.Standing.{CanServe, Stands, HasRead, AreSessions, place_of, InAct, LeavesInAct, AfterAct, Wears, InEnd, AfterEnd, InEnds, AfterEnds, InTurn, LeavesInTurn, LeavesLast, AfterTaken, AfterTurn, WearsIn, went_after, TakesOne, TakesTurn};
 ghost use Rattle.ak_tree.specs.Later.{KeepsOrigins};
 ghost use Rattle.ak_tree.specs.Stops.{OnWorn};
 
@@ -78,6 +78,7 @@ fn open_session(
 fn tell_end<H: Host>(alloc: Global, host: &mut H, session: &Session) -> Result<(), Stop>
     ensures stops { (was : Content) → HasStops H.tells was (H.state host.old) (H.state host.new) result }
     ensures silent { H.tells → 1 ≤ session.now.port → IsSilent (H.state host.old) (H.state host.new) }
+    ensures turns { H.tells → (mark_now (H.state host.new)).turns ≡ (mark_now (H.state host.old)).turns }
     ensures stop { IfErr result IsOutside }
     ensures reads { H.tells → (H.state host.new).reads ≡ (H.state host.old).reads }
     ensures files { H.tells → (H.state host.new).files ≡ (H.state host.old).files }
@@ -99,6 +100,7 @@ fn tell_ends<H: Host>(alloc: Global, host: &mut H, sessions: &[Session]) -> Resu
     requires { AllByRecursion (λ s. 1 ≤ s.port) sessions.now }
     ensures stops { (was : Content) → HasStops H.tells was (H.state host.old) (H.state host.new) result }
     ensures silent { H.tells → IsSilent (H.state host.old) (H.state host.new) }
+    ensures turns { H.tells → (mark_now (H.state host.new)).turns ≡ (mark_now (H.state host.old)).turns }
     ensures stop { IfErr result IsOutside }
     ensures reads { H.tells → (H.state host.new).reads ≡ (H.state host.old).reads }
     ensures files { H.tells → (H.state host.new).files ≡ (H.state host.old).files }
@@ -139,6 +141,7 @@ impl Node {
         ensures stops { HasStops H.tells self.old.keeper.forest.meta (H.state host.old) (H.state host.new) result }
         ensures becomes { H.tells → OnOk result (KeepsOrigins (H.state host.old) (H.state host.new) self.old.keeper.forest.meta self.new.keeper.forest.meta) }
         ensures silent { H.tells → IsSilent (H.state host.old) (H.state host.new) }
+        ensures turns { H.tells → (mark_now (H.state host.new)).turns ≡ (mark_now (H.state host.old)).turns }
         ensures sound { H.tells → (world : World) → Stands self.old world (H.state host.old) → IfErr result IsSoundStop }
         ensures reads { H.tells → (world : World) → Stands self.old world (H.state host.old) → HasNoQueries world (piece port bytes.now)
             → (H.state host.new).reads ≡ (H.state host.old).reads }
@@ -164,6 +167,7 @@ impl Node {
         ensures keeper { self.new.keeper ≡ self.old.keeper }
         ensures stops { (was : Content) → HasStops H.tells was (H.state host.old) (H.state host.new) result }
         ensures silent { H.tells → IsSilent (H.state host.old) (H.state host.new) }
+        ensures turns { H.tells → (mark_now (H.state host.new)).turns ≡ (mark_now (H.state host.old)).turns }
         ensures outside { IfErr result IsOutside }
         ensures reads { H.tells → (H.state host.new).reads ≡ (H.state host.old).reads }
         ensures files { H.tells → (H.state host.new).files ≡ (H.state host.old).files }
@@ -189,6 +193,7 @@ impl Node {
         ensures stops { HasStops H.tells self.old.keeper.forest.meta (H.state host.old) (H.state host.new) result }
         ensures becomes { H.tells → OnOk result (KeepsOrigins (H.state host.old) (H.state host.new) self.old.keeper.forest.meta self.new.keeper.forest.meta) }
         ensures silent { H.tells → IsSilent (H.state host.old) (H.state host.new) }
+        ensures turns { H.tells → (mark_now (H.state host.new)).turns ≡ (mark_now (H.state host.old)).turns }
         ensures sound { IfErr result IsSoundStop }
         ensures reads { H.tells → (H.state host.new).reads ≡ (H.state host.old).reads }
         ensures ready { OnOk result (CanServe H.tells self.new (H.state host.new)) }
@@ -218,6 +223,7 @@ impl Node {
         ensures stops { HasStops H.tells self.old.keeper.forest.meta (H.state host.old) (H.state host.new) result }
         ensures becomes { H.tells → OnOk result (KeepsOrigins (H.state host.old) (H.state host.new) self.old.keeper.forest.meta self.new.keeper.forest.meta) }
         ensures silent { H.tells → IsSilent (H.state host.old) (H.state host.new) }
+        ensures turns { H.tells → (mark_now (H.state host.new)).turns ≡ (mark_now (H.state host.old)).turns }
         ensures sound { H.tells → (world : World) → Stands self.old world (H.state host.old) → IfErr result IsSoundStop }
         ensures reads { H.tells → (world : World) → Stands self.old world (H.state host.old) → HasNoQueries world (taken turn from.now)
             → (H.state host.new).reads ≡ (H.state host.old).reads }
@@ -261,6 +267,7 @@ impl Node {
         ensures stops { self.old.stop ≡ None → HasStops H.tells self.old.keeper.forest.meta (H.state host.old) (H.state host.new) result }
         ensures becomes { H.tells → OnOk result (KeepsOrigins (H.state host.old) (H.state host.new) self.old.keeper.forest.meta self.new.keeper.forest.meta) }
         ensures silent { H.tells → IsSilent (H.state host.old) (H.state host.new) }
+        ensures turns { H.tells → (mark_now (H.state host.new)).turns ≡ (mark_now (H.state host.old)).turns }
         ensures went { IfOk result (λ went. went ≡ went_after turn) }
         ensures sound { H.tells → (world : World) → Stands self.old world (H.state host.old) → IfErr result IsSoundStop }
         // Puts and flushes read nothing.
@@ -299,6 +306,10 @@ impl Node {
         ensures stops { self.old.stop ≡ None → HasStops H.tells self.old.keeper.forest.meta (H.state host.old) (H.state host.new) result }
         ensures becomes { H.tells → OnOk result (KeepsOrigins (H.state host.old) (H.state host.new) self.old.keeper.forest.meta self.new.keeper.forest.meta) }
         ensures silent { H.tells → IsSilent (H.state host.old) (H.state host.new) }
+        // It takes one turn, or none where the ports failed.
+        ensures taken { H.tells → self.old.stop ≡ None → IfOk result (TakesTurn (mark_now (H.state host.old)) (mark_now (H.state host.new))) }
+        ensures stopped { H.tells → self.old.stop ≡ None → IfErr result (λ stop. ((stop ≡ Stop.Port) × (mark_now (H.state host.new) ≡ mark_now (H.state host.old)))
+            ⊎ TakesOne (mark_now (H.state host.old)) (mark_now (H.state host.new))) }
         ensures sound { H.tells → (world : World) → Stands self.old world (H.state host.old) → IfErr result IsSoundStop }
         // Puts and flushes read nothing.
         ensures reads { H.tells → (world : World) → Stands self.old world (H.state host.old) → OnTurn (mark_now (H.state host.old)) (mark_now (H.state host.new)) (HasNoQueries world)
@@ -341,6 +352,7 @@ impl Node {
         ensures becomes { H.tells → OnOk result (KeepsOrigins (H.state host.old) (H.state host.new) self.old.keeper.forest.meta self.new.keeper.forest.meta) }
         ensures sound { self.old.stop ≡ None → IfErr result IsSoundStop }
         ensures silent { H.tells → IsSilent (H.state host.old) (H.state host.new) }
+        ensures turns { H.tells → (mark_now (H.state host.new)).turns ≡ (mark_now (H.state host.old)).turns }
         ensures reads { H.tells → (H.state host.new).reads ≡ (H.state host.old).reads }
         ensures ready { OnOk result (CanServe H.tells self.new (H.state host.new)) }
         ensures worn { H.tells → (world : World) → Stands self.old world (H.state host.old) → OnWorn result (Wears world done) }

@@ -1,6 +1,7 @@
 //! Opens a store, or makes one.
-ghost use Rattle.std.specs.Prelude.{ℕ, List, ◌≡◌, ◌⊎◌, ◌+◌, ◌*◌, ◌≤◌, [], false, Some, None, length, slice_index, IfOk, IfErr};
+ghost use Rattle.std.specs.Prelude.{ℕ, List, ◌≡◌, ◌⊎◌, ◌+◌, ◌*◌, ◌≤◌, [], false, Some, None, length, slice_index, OnOk, IfOk, IfErr};
 ghost use Rattle.ak_base.specs.Ranges.{AreLimits};
+ghost use Rattle.ak_checkpoint.specs.Making.{KeepsDisk, made_sizes};
 ghost use Rattle.ak_host.specs.Files.{Files};
 ghost use Rattle.ak_host.specs.Moments.{DiskPasses, LeavesNow};
 ghost use Rattle.ak_image.specs.Blocks.{seen_in, AreThere};
@@ -191,6 +192,7 @@ impl Node {
         ensures disk_later { (D.state disk.old).disk_faults ≤ (D.state disk.new).disk_faults }
         ensures port_faults { (D.state disk.new).port_faults ≡ (D.state disk.old).port_faults }
         ensures files { D.tells → (D.state disk.new).files ≡ (D.state disk.old).files }
+        ensures sizes { (D.state disk.new).sizes ≡ (D.state disk.old).sizes }
         // It makes no more reads than file 0 has blocks and 341 for each series, and writes nothing.
         ensures reads { D.tells → IfOk result (λ node.
             (D.state disk.new).reads ≤ (D.state disk.old).reads + slice_index (D.state disk.old).sizes 0 + 341 * length node.keeper.forest.meta.series) }
@@ -223,6 +225,9 @@ impl Node {
         ensures stands { D.tells → IfOk result (λ node. Stands node (world_of (first_view limits.now)) (D.state disk.new)) }
         ensures disk_later { (D.state disk.old).disk_faults ≤ (D.state disk.new).disk_faults }
         ensures port_faults { (D.state disk.new).port_faults ≡ (D.state disk.old).port_faults }
+        ensures sizes { OnOk result ((D.state disk.new).sizes ≡ made_sizes limits.now (D.state disk.old).sizes) }
+        // A store that is there already is left alone.
+        ensures kept { D.tells → IsTaken (D.state disk.old).files → KeepsDisk (D.state disk.old) (D.state disk.new) }
         // Until it is done, a stop leaves no store, or the first view.
         ensures moments { D.tells → ((left : Files) → LeavesNow (D.state disk.old) left → IsNoStore left)
             → DiskPasses (λ left. IsNoStore left ⊎ IsFirst limits.now left) (D.state disk.old) (D.state disk.new) }

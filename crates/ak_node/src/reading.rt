@@ -34,6 +34,7 @@ fn act<H: Host>(
     ensures stops { HasStops H.tells keeper.old.forest.meta (H.state host.old) (H.state host.new) result }
     ensures becomes { H.tells → OnOk result (KeepsOrigins (H.state host.old) (H.state host.new) keeper.old.forest.meta keeper.new.forest.meta) }
     ensures silent { H.tells → 1 ≤ port → IsSilent (H.state host.old) (H.state host.new) }
+    ensures turns { H.tells → (mark_now (H.state host.new)).turns ≡ (mark_now (H.state host.old)).turns }
     ensures sound { H.tells → (content : Store) → Holds content keeper.old (H.state host.old) → IfErr result IsSoundStop }
     ensures reads { H.tells → IsNoQuery message.now → (H.state host.new).reads ≡ (H.state host.old).reads }
     ensures ready { OnOk result (IsReady H.tells keeper.new (H.state host.new)) }
@@ -71,6 +72,7 @@ fn advance<H: Host>(
     ensures stops { HasStops H.tells keeper.old.forest.meta (H.state host.old) (H.state host.new) result }
     ensures becomes { H.tells → OnOk result (KeepsOrigins (H.state host.old) (H.state host.new) keeper.old.forest.meta keeper.new.forest.meta) }
     ensures silent { H.tells → IsSilent (H.state host.old) (H.state host.new) }
+    ensures turns { H.tells → (mark_now (H.state host.new)).turns ≡ (mark_now (H.state host.old)).turns }
     ensures sound { H.tells → (begun : Begun) → ReadsOn begun keeper.old session.old (begun.stream ++ take at.old piece.now) (mark_now (H.state host.old)) (H.state host.old) → IfErr result IsSoundStop }
     ensures reads { H.tells → (begun : Begun) → ReadsOn begun keeper.old session.old (begun.stream ++ take at.old piece.now) (mark_now (H.state host.old)) (H.state host.old)
         → AreNoQueries begun.stream piece.now → (H.state host.new).reads ≡ (H.state host.old).reads }
@@ -116,6 +118,7 @@ pub fn read<H: Host>(
     ensures stops { HasStops H.tells keeper.old.forest.meta (H.state host.old) (H.state host.new) result }
     ensures becomes { H.tells → OnOk result (KeepsOrigins (H.state host.old) (H.state host.new) keeper.old.forest.meta keeper.new.forest.meta) }
     ensures silent { H.tells → IsSilent (H.state host.old) (H.state host.new) }
+    ensures turns { H.tells → (mark_now (H.state host.new)).turns ≡ (mark_now (H.state host.old)).turns }
     ensures sound { H.tells → (begun : Begun) → ReadsOn begun keeper.old session.old begun.stream (mark_now (H.state host.old)) (H.state host.old) → IfErr result IsSoundStop }
     ensures reads { H.tells → (begun : Begun) → ReadsOn begun keeper.old session.old begun.stream (mark_now (H.state host.old)) (H.state host.old)
         → AreNoQueries begun.stream piece.now → (H.state host.new).reads ≡ (H.state host.old).reads }

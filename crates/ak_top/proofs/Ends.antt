@@ -507,7 +507,7 @@ made_failed words told old mid new s status is cause (inr (inr e)) t none disk n
 
 -- ---- A call that was done
 
-done_last : (others : List Taken) → NoneDone (others ++ done ∷ []) → ⊥
+pub done_last : (others : List Taken) → NoneDone (others ++ done ∷ []) → ⊥
 done_last [] none = none.0 tt
 done_last (x ∷ others) none = done_last others none.1
 

@@ -7,3 +7,4 @@ pub mod Serving
 pub mod Stopping
 pub mod Taking
 pub mod Words
+pub mod Turning

@@ -144,7 +144,7 @@ fresh_run view start mark since worn last answer run sound =
 
 -- ---- Counts of turns
 
-none_more : (ts : List Taken) (t : Taken) → NoneDone ts → ¬ (IsDone t) → NoneDone (ts ++ t ∷ [])
+pub none_more : (ts : List Taken) (t : Taken) → NoneDone ts → ¬ (IsDone t) → NoneDone (ts ++ t ∷ [])
 none_more [] t none is = (is, tt)
 none_more (x ∷ ts) t none is = (none.0, none_more ts t none.1 is)
 

@@ -8,7 +8,7 @@ use Rattle.ak_words.specs.declared.job.WordsError.{WordsError}
 use Rattle.ak_words.specs.declared.job.WordsError.TheVariants.{Usage}
 use Rattle.ak_words.specs.Words.{Asks, IsJob, IsCommand, IsRefused}
 use Rattle.ak_words.proofs.Choices.{job_one}
-use Rattle.ak_top.specs.Commands.{IsRun, Creates, Makes, Serves}
+use Rattle.ak_top.specs.Commands.{IsRun, Creates, Makes, Serves, scratch_limits}
 
 abbrev job_on : Command → List ℕ → Job
 job_on command dir = record { command = command; dir = dir; files = [] }
@@ -45,6 +45,18 @@ run_or_none words run none = let is = run.1 in cc
 
 pub one_limits : (words : List (List ℕ)) (job : Job) (made limits : Limits) → IsJob words job → job.command ≡ Create made → Creates words limits → made ≡ limits
 one_limits words job made limits is command creates = let same = creates_is words job limits is creates in cc
+
+pub made_limits : (words : List (List ℕ)) (job : Job) (made limits : Limits) → IsJob words job → job.command ≡ Create made → Makes words limits → made ≡ limits
+made_limits words job made limits is command (inl creates) = one_limits words job made limits is command creates
+made_limits words job made limits is command (inr none) = let same = scratch_is words job is none.0 in cc
+
+pub scratch_made : (words : List (List ℕ)) (job : Job) (limits : Limits) → IsJob words job → job.command ≡ Scratch → Makes words limits → limits ≡ scratch_limits
+scratch_made words job limits is command (inl creates) = let same = creates_is words job limits is creates in cc
+scratch_made words job limits is command (inr none) = none.1
+
+pub run_or_made : (words : List (List ℕ)) (job : Job) (limits : Limits) → IsJob words job → job.command ≡ Run → Makes words limits → ⊥
+run_or_made words job limits is command (inl creates) = let same = creates_is words job limits is creates in cc
+run_or_made words job limits is command (inr none) = let same = scratch_is words job is none.0 in cc
 
 -- ---- Each is a command
 

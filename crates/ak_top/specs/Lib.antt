@@ -3,3 +3,4 @@ pub mod Told
 pub mod Kept
 pub mod Ends
 pub mod Calls
+pub mod Turns

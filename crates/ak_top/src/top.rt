@@ -3,6 +3,7 @@ ghost use Rattle.std.specs.Prelude.{◌≡◌, ◌≢◌, ◌⊎◌, ◌↔◌, 
 ghost use Rattle.ak_base.specs.declared.limits.Limits.{Limits};
 ghost use Rattle.ak_base.specs.Ranges.{AreLimits};
 ghost use Rattle.ak_base.specs.Stops.{status_of};
+ghost use Rattle.ak_checkpoint.specs.Making.{KeepsDisk, made_sizes};
 ghost use Rattle.ak_host.specs.Causes.{Rose};
 ghost use Rattle.ak_host.specs.Files.{Files};
 ghost use Rattle.ak_host.specs.Moments.{Passes, PortPasses, DiskPasses, HoldsFrom, LeavesNow, mark_now};
@@ -19,7 +20,8 @@ ghost use Rattle.ak_top.specs.Commands.{IsRun, Creates, Makes, Serves, Opens, Ar
 ghost use Rattle.ak_top.specs.Ends.{EndsBy, IsEnd, IsOneOf, IsOwn, IsRunStop, IsScratchStop, OnlyBy, IsMissing, IsThere, IsRefused, IsServing, IsServingOrThere, IsExists, HasServed, IsFinished};
 ghost use Rattle.ak_top.specs.Kept.{IsKept, KeepsFrom, KeepsLast};
 ghost use Rattle.ak_run.specs.Run.{World, world_of};
-ghost use Rattle.ak_node.specs.Standing.{CanServe, Stands, InTurn, LeavesInTurn, LeavesLast, WearsIn};
+ghost use Rattle.ak_node.specs.Standing.{CanServe, Stands, InTurn, LeavesInTurn, LeavesLast, WearsIn, TakesOne, TakesTurn};
+ghost use Rattle.ak_top.specs.Turns.{IsIdle, AreDone, AreAll, AreSome, TurnsSince, IsUntouched, IsRefusal, IsDamage};
 ghost use Rattle.ak_top.specs.Told.{IsComplete, EndsDone, AreSpent, IsWorn, HasWorn, IsTold, line_of, IsQuiet};
 
 use ak_base::{Limits, Stop};
@@ -40,6 +42,8 @@ fn take_turn<H: Host>(alloc: Global, host: &mut H, node: &mut Node) -> Result<We
     ensures stops { HasStops H.tells node.old.keeper.forest.meta (H.state host.old) (H.state host.new) result }
     ensures becomes { H.tells → OnOk result (KeepsOrigins (H.state host.old) (H.state host.new) node.old.keeper.forest.meta node.new.keeper.forest.meta) }
     ensures silent { H.tells → IsSilent (H.state host.old) (H.state host.new) }
+    ensures taken { H.tells → IfOk result (TakesTurn (mark_now (H.state host.old)) (mark_now (H.state host.new))) }
+    ensures stopped { H.tells → IfErr result (λ stop. (stop ≡ Stop.Port) ⊎ TakesOne (mark_now (H.state host.old)) (mark_now (H.state host.new))) }
     ensures sound { H.tells → (world : World) → Stands node.old world (H.state host.old) → IfErr result IsSoundStop }
     ensures ready { OnOk result (CanServe H.tells node.new (H.state host.new)) }
     ensures worn { H.tells → (world : World) → Stands node.old world (H.state host.old)
@@ -68,6 +72,10 @@ fn serve<H: Host>(alloc: Global, host: &mut H, node: Node) -> Result<(), Stop>
     ensures cause { HasServeStops H.tells node.keeper.forest.meta (H.state host.old) (H.state host.new) result }
     ensures sound { H.tells → (view : View) → Stands node (world_of view) (H.state host.old) → IfErr result IsSoundStop }
     ensures silent { H.tells → IsSilent (H.state host.old) (H.state host.new) }
+    ensures sizes { (H.state host.new).sizes ≡ (H.state host.old).sizes }
+    ensures finished { H.tells → OnOk result (TurnsSince AreDone (mark_now (H.state host.old)) (mark_now (H.state host.new))) }
+    ensures all { H.tells → OnStop IsBudget result (TurnsSince AreAll (mark_now (H.state host.old)) (mark_now (H.state host.new))) }
+    ensures damaged { H.tells → OnStop IsDamage result (TurnsSince AreSome (mark_now (H.state host.old)) (mark_now (H.state host.new))) }
     ensures spent { H.tells → (view : View) → Stands node (world_of view) (H.state host.old)
         → OnStop IsBudget result (AreSpent (mark_now (H.state host.old)) (mark_now (H.state host.new))) }
     ensures done { H.tells → (view : View) → Stands node (world_of view) (H.state host.old)
@@ -103,6 +111,11 @@ fn run<H: Host>(alloc: Global, host: &mut H) -> Result<(), Stop>
     ensures port_later { (H.state host.old).port_faults ≤ (H.state host.new).port_faults }
     ensures no_store { H.tells → IsNoStore (H.state host.old).files → OnlyBy IsMissing result }
     ensures silent { H.tells → IsSilent (H.state host.old) (H.state host.new) }
+    ensures sizes { (H.state host.new).sizes ≡ (H.state host.old).sizes }
+    ensures refused { H.tells → OnStop IsRefusal result (IsUntouched (H.state host.old) (H.state host.new)) }
+    ensures damaged { H.tells → IsIdle (mark_now (H.state host.old)) (mark_now (H.state host.new)) → OnStop IsDamage result (IsUntouched (H.state host.old) (H.state host.new)) }
+    ensures finished { H.tells → OnOk result (TurnsSince AreDone (mark_now (H.state host.old)) (mark_now (H.state host.new))) }
+    ensures all { H.tells → OnStop IsBudget result (TurnsSince AreAll (mark_now (H.state host.old)) (mark_now (H.state host.new))) }
     ensures quiet { H.tells → (view : View) → IsSound (H.state host.old).files → StandsFor view (H.state host.old).files
         → Passes (IsQuiet view (mark_now (H.state host.old))) (λ mark disk. Unit {0}) (H.state host.old) (H.state host.new) }
     ensures served { H.tells → (view : View) → IsSound (H.state host.old).files → StandsFor view (H.state host.old).files → HasServed view (mark_now (H.state host.old)) (H.state host.new) result }
@@ -121,6 +134,11 @@ fn scratch<H: Host>(alloc: Global, host: &mut H) -> Result<(), Stop>
     ensures port_later { (H.state host.old).port_faults ≤ (H.state host.new).port_faults }
     ensures exists { H.tells → IsTaken (H.state host.old).files → OnlyBy IsThere result }
     ensures silent { H.tells → IsSilent (H.state host.old) (H.state host.new) }
+    ensures sizes { OnOk result ((H.state host.new).sizes ≡ made_sizes scratch_limits (H.state host.old).sizes) }
+    ensures refused { H.tells → OnStop IsRefusal result (IsUntouched (H.state host.old) (H.state host.new)) }
+    ensures damaged { H.tells → IsIdle (mark_now (H.state host.old)) (mark_now (H.state host.new)) → OnStop IsDamage result (IsUntouched (H.state host.old) (H.state host.new)) }
+    ensures finished { H.tells → OnOk result (TurnsSince AreDone (mark_now (H.state host.old)) (mark_now (H.state host.new))) }
+    ensures all { H.tells → OnStop IsBudget result (TurnsSince AreAll (mark_now (H.state host.old)) (mark_now (H.state host.new))) }
     ensures quiet { H.tells → Passes (IsQuiet (first_view scratch_limits) (mark_now (H.state host.old))) (λ mark disk. Unit {0}) (H.state host.old) (H.state host.new) }
     ensures there { H.tells → OnStop IsExists result (mark_now (H.state host.new) ≡ mark_now (H.state host.old)) }
     ensures served { H.tells → HasServed (first_view scratch_limits) (mark_now (H.state host.old)) (H.state host.new) result }
@@ -140,6 +158,8 @@ fn create<D: Disk>(alloc: Global, disk: &mut D, limits: Limits) -> Result<(), St
     ensures moments { D.tells → AreFree (D.state disk.old) → DiskPasses (IsMaking limits) (D.state disk.old) (D.state disk.new) }
     ensures mark { D.tells → DiskPasses (λ left. Unit {0}) (D.state disk.old) (D.state disk.new) }
     ensures made { D.tells → OnOk result ((left : Files) → LeavesNow (D.state disk.new) left → IsFirst limits left) }
+    ensures sizes { OnOk result ((D.state disk.new).sizes ≡ made_sizes limits (D.state disk.old).sizes) }
+    ensures kept { D.tells → IsTaken (D.state disk.old).files → KeepsDisk (D.state disk.old) (D.state disk.new) }
     ensures disk_later { (D.state disk.old).disk_faults ≤ (D.state disk.new).disk_faults }
     ensures port_faults { (D.state disk.new).port_faults ≡ (D.state disk.old).port_faults }
 {
@@ -156,6 +176,12 @@ fn perform<H: Host>(alloc: Global, words: &[String], host: &mut H) -> Result<(),
     ensures no_store { H.tells → IsRun (map string_bytes words.now) → IsNoStore (H.state host.old).files → OnlyBy IsMissing result }
     ensures exists { H.tells → (limits : Limits) → Makes (map string_bytes words.now) limits → IsTaken (H.state host.old).files → OnlyBy IsThere result }
     ensures silent { H.tells → IsSilent (H.state host.old) (H.state host.new) }
+    ensures sizes { IsRun (map string_bytes words.now) → (H.state host.new).sizes ≡ (H.state host.old).sizes }
+    ensures sizes_made { (limits : Limits) → Makes (map string_bytes words.now) limits → OnOk result ((H.state host.new).sizes ≡ made_sizes limits (H.state host.old).sizes) }
+    ensures refused { H.tells → OnStop IsRefusal result (IsUntouched (H.state host.old) (H.state host.new)) }
+    ensures damaged { H.tells → IsIdle (mark_now (H.state host.old)) (mark_now (H.state host.new)) → OnStop IsDamage result (IsUntouched (H.state host.old) (H.state host.new)) }
+    ensures finished { H.tells → Serves (map string_bytes words.now) → OnOk result (TurnsSince AreDone (mark_now (H.state host.old)) (mark_now (H.state host.new))) }
+    ensures all { H.tells → OnStop IsBudget result (TurnsSince AreAll (mark_now (H.state host.old)) (mark_now (H.state host.new))) }
     ensures quiet { H.tells → (view : View) → Opens (map string_bytes words.now) (H.state host.old) view
         → Passes (IsQuiet view (mark_now (H.state host.old))) (λ mark disk. Unit {0}) (H.state host.old) (H.state host.new) }
     ensures idle { H.tells → ¬ (Serves (map string_bytes words.now)) → mark_now (H.state host.new) ≡ mark_now (H.state host.old) }
@@ -189,6 +215,7 @@ fn fail<P: Ports>(ports: &mut P, stop: Stop) -> u8
     ensures later { (P.state ports.old).port_faults ≤ (P.state ports.new).port_faults }
     ensures disk_faults { (P.state ports.new).disk_faults ≡ (P.state ports.old).disk_faults }
     ensures files { P.tells → (P.state ports.new).files ≡ (P.state ports.old).files }
+    ensures sizes { (P.state ports.new).sizes ≡ (P.state ports.old).sizes }
     ensures told { P.tells → HasTold (P.state ports.old).port_faults (P.state ports.new).port_faults
         (mark_now (P.state ports.old)) (mark_now (P.state ports.new)) (line_of stop) }
     ensures moments { P.tells → PortPasses (λ mark. (mark ≡ mark_now (P.state ports.old))
@@ -227,6 +254,17 @@ pub fn akl<H: Host>(alloc: Global, words: &[String], host: &mut H) -> u8
         → (result ≡ 6) ↔ (AreSpent (mark_now (H.state host.old)) (mark_now (H.state host.new)) × IsOwn result × (result ≢ 7)) }
     ensures worn { H.tells → (view : View) → Opens (map string_bytes words.now) (H.state host.old) view
         → (result ≡ 7) ↔ (Serves (map string_bytes words.now) × IsWorn view (mark_now (H.state host.old)) (mark_now (H.state host.new)) × IsOwn result) }
+
+    // On any disk: what is refused leaves it alone, and so does one that is found damaged before a turn is taken.
+    ensures refused { H.tells → (result ≡ 1) ⊎ ((result ≡ 8) ⊎ (result ≡ 9)) → IsUntouched (H.state host.old) (H.state host.new) }
+    ensures damaged { H.tells → result ≡ 2 → IsIdle (mark_now (H.state host.old)) (mark_now (H.state host.new)) → IsUntouched (H.state host.old) (H.state host.new) }
+    // Only a command that serves takes turns, up to `Done` or up to the last.
+    ensures idle { H.tells → ¬ (Serves (map string_bytes words.now)) → IsIdle (mark_now (H.state host.old)) (mark_now (H.state host.new)) }
+    ensures finished { H.tells → Serves (map string_bytes words.now) → result ≡ 0 → TurnsSince AreDone (mark_now (H.state host.old)) (mark_now (H.state host.new)) }
+    ensures all { H.tells → (result ≡ 6) ↔ (TurnsSince AreAll (mark_now (H.state host.old)) (mark_now (H.state host.new)) × IsOwn result × (result ≢ 2) × (result ≢ 7)) }
+    // The files are as large as the words say, and a run keeps them so.
+    ensures sizes { IsRun (map string_bytes words.now) → (H.state host.new).sizes ≡ (H.state host.old).sizes }
+    ensures sizes_made { (limits : Limits) → Makes (map string_bytes words.now) limits → result ≡ 0 → (H.state host.new).sizes ≡ made_sizes limits (H.state host.old).sizes }
 
     // At each moment from the opening on, each disk that a stop leaves is sound and stands for a view of the run.
     ensures stands { H.tells → (view : View) → Opens (map string_bytes words.now) (H.state host.old) view → Serves (map string_bytes words.now)

@@ -1,6 +1,7 @@
 use Rattle.std.proofs.Common.{◌+◌, ◌*◌, ◌∙◌, ℕ, List, ap, arith, length, slice_index}
 use Rattle.ak_host.specs.Files.{Files, file_at, zero_blocks}
 use Rattle.ak_host.proofs.Passing.{disk_goes_on, disk_weaker}
+use Rattle.ak_checkpoint.proofs.Sizes.{sizes_to, sizes_made}
 use Rattle.ak_checkpoint.proofs.Stores.{with_item-past, with_item-same, with_item-zero, making_left, zeros_no_store}
 use Rattle.ak_checkpoint.proofs.making.make_files.Goals as goal
 
@@ -38,3 +39,9 @@ pub returns-clause-zeros : goal.returns-clause-zeros
 returns-clause-zeros g c told =
     c.in_ok-make_volumes.ensures.same told ∙ ap (λ (files : Files). file_at files 0) (c.in_default.ensures.files told)
     ∙ with_item-zero (g.D.Outside.state c.args.disk.now).files (zero_blocks (2 + 2 * c.args.limits.now.slot))
+
+pub returns-clause-sizes : goal.returns-clause-sizes
+returns-clause-sizes g c =
+    let limits = c.args.limits.now in
+    let old = (g.D.Outside.state c.args.disk.now).sizes in
+    c.in_ok-make_volumes.ensures.sizes ∙ ap (λ (l : List ℕ). sizes_to l limits.blocks limits.volumes) c.in_default.ensures.sizes ∙ sizes_made limits old

@@ -1,4 +1,4 @@
-use Rattle.std.proofs.Common.{inl, sym, subst, None}
+use Rattle.std.proofs.Common.{inl, rules, sym, subst, None}
 use Rattle.ak_host.specs.Moments.{DiskPasses}
 use Rattle.ak_host.proofs.Passing.{disk_goes_on, disk_now, disk_weaker}
 use Rattle.ak_record.specs.Records.{Rests}
@@ -59,3 +59,13 @@ returns-in-Ok-finish-clause-empty g c told =
     let now = first_now c.args.limits.now c.in-Ok.begun.1 mid new c.requires (first_begun c.args.limits.now c.first-gate.result c.in-Ok.begun.1 c.in-Ok.ensures.checkpoint c.first-gate.ensures.gate) rests (c.in-Ok-finish.ensures.saved told) in
     still_empty c.args.limits.now 1 mid new (c.finish.ensures.elsewhere told) (λ disk left. (now disk left).0)
     (subst (λ d. AreEmpty c.args.limits.now (g.D.Outside.state d)) (sym c.first-gate.ensures.same) (c.in_ok-make_files.ensures.empty told))
+
+pub returns-in-Ok-finish-clause-kept : goal.returns-in-Ok-finish-clause-kept
+returns-in-Ok-finish-clause-kept g c told taken =
+    let there = (c.in_ok-is_taken.ensures.taken told).1 taken in
+    absurd (search rules)
+
+pub returns-in-Err-finish-clause-kept : goal.returns-in-Err-finish-clause-kept
+returns-in-Err-finish-clause-kept g c told taken =
+    let there = (c.in_ok-is_taken.ensures.taken told).1 taken in
+    absurd (search rules)

@@ -1,8 +1,9 @@
-use Rattle.std.proofs.Common.{◌≡◌, ◌≤◌, ◌<◌, ◌∙◌, ℕ, inl, inr, List, ap, arith, length, slice_index, sym, subst}
+use Rattle.std.proofs.Common.{◌≡◌, ◌+◌, ◌-◌, ◌≤◌, ◌<◌, ◌∙◌, ℕ, inl, inr, List, ap, arith, length, slice_index, sym, subst}
 use Rattle.std.proofs.lemmas.Bool.{cases_lt}
 use Rattle.std.proofs.lemmas.List.{length-map}
 use Rattle.ak_host.specs.Files.{file_at, with_item, zero_blocks}
 use Rattle.ak_host.proofs.Passing.{disk_goes_on, disk_now}
+use Rattle.ak_checkpoint.proofs.Sizes.{sizes_to, sizes_next}
 use Rattle.ak_checkpoint.proofs.Stores.{with_item-past, with_item-same, with_item-other, with_item-kept, made_behind, empty_more, all_empty}
 use Rattle.ak_checkpoint.proofs.making.make_volumes.Goals as goal
 
@@ -26,6 +27,13 @@ loop-file-preserved g c =
             let same : k ≡ file = omega arith in
             at k ∙ ap (λ i. slice_index (with_item sizes file blocks) i) same ∙ with_item-same sizes file blocks so_far.number
       ];
+      sizes =
+          let start = (g.D.Outside.state c.args.disk.now).sizes in
+          let here : 1 + (file - 1) ≡ file = omega (arith, behind) in
+          let next : file - 1 + 1 ≡ file + 1 - 1 = omega (arith, behind) in
+          made ∙ ap (λ (l : List ℕ). with_item l file blocks) so_far.sizes
+          ∙ ap (λ (k : ℕ). with_item (sizes_to start blocks (file - 1)) k blocks) (sym here)
+          ∙ sizes_next start blocks (file - 1) c.requires.there ∙ ap (sizes_to start blocks) next;
       later = omega (arith, so_far.later, c.make.ensures.cause.later);
       port_faults = c.make.ensures.port_faults ∙ so_far.port_faults;
       same = λ told. ap (λ files. file_at files 0) (c.in_default.ensures.files told)
@@ -41,3 +49,17 @@ loop-file-preserved g c =
 
 pub returns-clause-empty : goal.returns-clause-empty
 returns-clause-empty g c told = all_empty c.args.limits.now (g.D.Outside.state c.loop-file.disk) c.loop-file.file (omega arith) (c.loop-file.invariant.empty told)
+
+pub returns-clause-sizes : goal.returns-clause-sizes
+returns-clause-sizes g c =
+    let all : c.loop-file.file - 1 ≡ c.args.limits.now.volumes = omega arith in
+    c.loop-file.invariant.sizes ∙ ap (sizes_to (g.D.Outside.state c.args.disk.now).sizes c.args.limits.now.blocks) all
+
+pub returns-in-Err-clause-moments : goal.returns-in-Err-clause-moments
+returns-in-Err-clause-moments g c told =
+    let so_far = c.loop-file.invariant in
+    let file = c.loop-file.file in
+    let behind : 0 < file = omega arith in
+    disk_goes_on (so_far.moments told) (c.make.ensures.moments told) (λ disk follows.
+    let is = disk_now (so_far.moments told) (c.requires.stable told) follows.0 follows.1 in
+    made_behind 0 file c.args.limits.now.blocks follows.0 disk behind (subst (λ f. 0 < length f) (sym is) (c.requires.some told)) follows.2 ∙ is)

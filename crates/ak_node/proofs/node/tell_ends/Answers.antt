@@ -34,6 +34,7 @@ loop-session-preserved g c =
       stops = λ was. stops_on _ _ _ _ _ _ _ _ (c.loop-session.invariant.stops was)
           (λ told. origins_same (g.H.Outside.state c.args.host.now) (g.H.Outside.state c.loop-session.host) was (c.loop-session.invariant.files told)) (c.in_ok-tell_end.ensures.stops was);
       silent = λ told. c.tell_end.ensures.silent told some ∙ c.loop-session.invariant.silent told;
+      turns = λ told. c.tell_end.ensures.turns told ∙ c.loop-session.invariant.turns told;
       reads = λ told. c.tell_end.ensures.reads told ∙ c.loop-session.invariant.reads told;
       files = λ told. c.tell_end.ensures.files told ∙ c.loop-session.invariant.files told;
       leaves = λ told disk left. c.loop-session.invariant.leaves told disk (c.tell_end.ensures.leaves told disk left);

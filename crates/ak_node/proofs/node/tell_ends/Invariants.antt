@@ -11,6 +11,7 @@ abbrev pub invariant-loop-session : goal.invariant-loop-session
 invariant-loop-session g l = record {
   stops : (was : Content) → HasStops {T = Unit {0}} g.H.Outside.tells was (g.H.Outside.state l.fn.host) (g.H.Outside.state l.host) (Ok tt);
   silent : g.H.Outside.tells → IsSilent (g.H.Outside.state l.fn.host) (g.H.Outside.state l.host);
+  turns : g.H.Outside.tells → (mark_now (g.H.Outside.state l.host)).turns ≡ (mark_now (g.H.Outside.state l.fn.host)).turns;
   reads : g.H.Outside.tells → (g.H.Outside.state l.host).reads ≡ (g.H.Outside.state l.fn.host).reads;
   files : g.H.Outside.tells → (g.H.Outside.state l.host).files ≡ (g.H.Outside.state l.fn.host).files;
   leaves : g.H.Outside.tells → (disk : Files) → LeavesNow (g.H.Outside.state l.host) disk → LeavesNow (g.H.Outside.state l.fn.host) disk;

@@ -32,6 +32,7 @@ loop-preserved g c = record {
   sizes = c.advance.ensures.stops.sizes ∙ c.loop.invariant.sizes;
   port = c.advance.ensures.port ∙ c.loop.invariant.port;
   silent = λ told. c.advance.ensures.silent told ∙ c.loop.invariant.silent told;
+  turns = λ told. c.advance.ensures.turns told ∙ c.loop.invariant.turns told;
   becomes = λ told found was. c.in_ok-advance.ensures.becomes told found (c.loop.invariant.becomes told found was);
   ready = c.in_ok-advance.ensures.ready;
   reads = λ told begun at. c.in_ok-advance.ensures.more told begun (c.loop.invariant.reads told begun at) (search rules);

@@ -15,6 +15,7 @@ invariant-loop g l = record {
   sizes : (g.H.Outside.state l.host).sizes ≡ (g.H.Outside.state l.fn.host).sizes;
   port : l.session.port ≡ l.fn.session.port;
   silent : g.H.Outside.tells → IsSilent (g.H.Outside.state l.fn.host) (g.H.Outside.state l.host);
+  turns : g.H.Outside.tells → (mark_now (g.H.Outside.state l.host)).turns ≡ (mark_now (g.H.Outside.state l.fn.host)).turns;
   becomes : g.H.Outside.tells → KeepsOrigins (g.H.Outside.state l.fn.host) (g.H.Outside.state l.host) l.fn.keeper.forest.meta l.keeper.forest.meta;
   ready : IsReady g.H.Outside.tells l.keeper (g.H.Outside.state l.host);
   reads : g.H.Outside.tells → (begun : Begun) → ReadsOn begun l.fn.keeper l.fn.session begun.stream (mark_now (g.H.Outside.state l.fn.host)) (g.H.Outside.state l.fn.host)

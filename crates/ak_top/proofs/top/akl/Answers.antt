@@ -1,5 +1,6 @@
-use Rattle.std.proofs.Common.{inl, refl}
+use Rattle.std.proofs.Common.{inl, refl, sym, ◌∙◌}
 use Rattle.ak_top.proofs.Ends.{silent_console, told_done, told_failed, quiet_end, lined, making_from, making_failed, keeps_on, ends_failed, missing_status, there_status, stop_some, undamaged_failed, complete_failed, budget_failed, worn_failed, finished_failed, made_failed, budget_done}
+use Rattle.ak_top.proofs.Turning.{all_done, all_failed, untouched_told, refusal_of, damage_of, line_idle}
 use Rattle.ak_top.proofs.top.akl.Goals as goal
 
 -- ---- Done
@@ -120,3 +121,24 @@ returns-in-Err-clause-complete g c told view opens serves none no_disk no_port =
       sound = c.in-Err.ensures.sound told view opens;
       line = lined _ _ _ _ _ (c.fail.ensures.told told);
     }) told serves none c.fail.ensures.disk_faults c.fail.ensures.later no_disk no_port
+
+-- ---- On any disk
+
+pub returns-in-Ok-clause-all : goal.returns-in-Ok-clause-all
+returns-in-Ok-clause-all g c told = all_done _ refl _ _ _ (c.in-Ok.ensures.finished told) (c.perform.ensures.idle told)
+
+pub returns-in-Err-clause-refused : goal.returns-in-Err-clause-refused
+returns-in-Err-clause-refused g c told refused =
+    untouched_told _ (c.in-Err.ensures.refused told (refusal_of c.in-Err.stop c.fail.result c.fail.ensures.status refused)) c.fail.ensures.sizes (c.fail.ensures.files told)
+    (c.fail.ensures.told told) (c.fail.ensures.moments told)
+
+pub returns-in-Err-clause-damaged : goal.returns-in-Err-clause-damaged
+returns-in-Err-clause-damaged g c told two still =
+    let line = line_idle _ _ _ (c.fail.ensures.told told) in
+    untouched_told _ (c.in-Err.ensures.damaged told (sym line ∙ still) (damage_of c.in-Err.stop c.fail.result c.fail.ensures.status two)) c.fail.ensures.sizes (c.fail.ensures.files told)
+    (c.fail.ensures.told told) (c.fail.ensures.moments told)
+
+pub returns-in-Err-clause-all : goal.returns-in-Err-clause-all
+returns-in-Err-clause-all g c told =
+    all_failed (g.H.Outside.state c.args.host.now) (g.H.Outside.state c.perform.new.host) (g.H.Outside.state c.fail.new.ports) (line_idle _ _ _ (c.fail.ensures.told told))
+    c.in-Err.stop c.fail.result c.fail.ensures.status (c.in-Err.ensures.refused told) (c.in-Err.ensures.all told)

@@ -1,4 +1,4 @@
-use Rattle.std.proofs.Common.{map, string_bytes, inl, sym, subst, OnOk}
+use Rattle.std.proofs.Common.{◌≡◌, map, string_bytes, inl, sym, subst, OnOk}
 use Rattle.std.proofs.lemmas.Result.{IfErr-weaker}
 use Rattle.ak_base.specs.declared.limits.Limits.{Limits}
 use Rattle.ak_host.specs.Files.{Files}
@@ -11,7 +11,9 @@ use Rattle.ak_top.specs.Kept.{KeepsFrom}
 use Rattle.ak_top.specs.Told.{IsQuiet}
 use Rattle.ak_top.proofs.Commands.{quiet_passes, keeps_weaker, keeps_starts, leaves_run, leaves_scratch}
 use Rattle.ak_top.proofs.Stopping.{run_end, scratch_end}
-use Rattle.ak_top.proofs.Words.{are_run, are_none, one_limits, run_command, creates_command, makes_command, serves_command, no_command}
+use Rattle.ak_top.proofs.Words.{are_run, are_none, one_limits, run_command, creates_command, makes_command, serves_command, no_command, made_limits, scratch_made, run_or_made}
+use Rattle.ak_checkpoint.specs.Making.{made_sizes}
+use Rattle.ak_top.proofs.Turning.{make_refuses}
 use Rattle.ak_top.proofs.top.perform.Goals as goal
 
 pub returns-in-Create-clause-quiet : goal.returns-in-Create-clause-quiet
@@ -26,6 +28,23 @@ pub returns-in-Create-clause-created : goal.returns-in-Create-clause-created
 returns-in-Create-clause-created g c told limits creates =
     let same = one_limits (map string_bytes c.args.words.now) c.in-Ok.job c.in-Create.limits limits c.in-Ok.ensures.job c.in-Create.is creates in
     subst (λ (l : Limits). OnOk c.create.result ((left : Files) → LeavesNow (g.H.Outside.state c.create.new.disk) left → IsFirst l left)) same (c.create.ensures.made told)
+
+pub returns-in-Create-clause-sizes_made : goal.returns-in-Create-clause-sizes_made
+returns-in-Create-clause-sizes_made g c limits makes =
+    let same = made_limits (map string_bytes c.args.words.now) c.in-Ok.job c.in-Create.limits limits c.in-Ok.ensures.job c.in-Create.is makes in
+    subst (λ (l : Limits). OnOk c.create.result ((g.H.Outside.state c.create.new.disk).sizes ≡ made_sizes l (g.H.Outside.state c.args.host.now).sizes)) same c.create.ensures.sizes
+
+pub returns-in-Create-clause-refused : goal.returns-in-Create-clause-refused
+returns-in-Create-clause-refused g c told =
+    make_refuses g.H.Outside.tells (g.H.Outside.state c.args.host.now) (g.H.Outside.state c.create.new.disk) c.create.result told c.create.ensures.err (c.create.ensures.kept told)
+
+pub returns-in-Run-clause-sizes_made : goal.returns-in-Run-clause-sizes_made
+returns-in-Run-clause-sizes_made g c limits makes = absurd (run_or_made (map string_bytes c.args.words.now) c.in-Ok.job limits c.in-Ok.ensures.job c.in-Run.is makes)
+
+pub returns-in-Ok-clause-sizes_made : goal.returns-in-Ok-clause-sizes_made
+returns-in-Ok-clause-sizes_made g c limits makes =
+    let same = scratch_made (map string_bytes c.args.words.now) c.in-Ok.job limits c.in-Ok.ensures.job c.in-Scratch.is makes in
+    subst (λ (l : Limits). OnOk c.scratch.result ((g.H.Outside.state c.scratch.new.host).sizes ≡ made_sizes l (g.H.Outside.state c.args.host.now).sizes)) (sym same) c.scratch.ensures.sizes
 
 pub returns-in-Run-clause-cause : goal.returns-in-Run-clause-cause
 returns-in-Run-clause-cause g c =

@@ -7,6 +7,8 @@ use Rattle.ak_top.specs.Calls.{AfterWhole}
 use Rattle.ak_top.proofs.Runs.{running_starts, turn_passes, running_on, ends_done, ends_kept, ends_fresh, wears_run, spent_complete, spent_all, spent_fresh}
 use Rattle.ak_top.proofs.Stopping.{worn_on}
 use Rattle.ak_node.proofs.Stopping.{stop_before}
+use Rattle.ak_node.specs.Standing.{TakesTurn}
+use Rattle.ak_top.proofs.Turning.{turns_none, turns_more, turns_done, turns_some, turns_all, turn_not_spent, damaged_one}
 use Rattle.ak_top.proofs.top.serve.Goals as goal
 
 pub loop-turn-init : goal.loop-turn-init
@@ -14,6 +16,8 @@ loop-turn-init g c = record {
   disk_later = omega arith;
   port_later = omega arith;
   silent = λ told. refl;
+  sizes = refl;
+  turns = λ told. turns_none (mark_now (g.H.Outside.state c.args.host.now));
   fresh = c.requires.free;
   becomes = λ told found was. was;
   ready = c.requires.ready;
@@ -26,6 +30,12 @@ loop-turn-preserved g c = record {
   disk_later = omega (arith, c.take_turn.ensures.stops.disk_later, c.loop-turn.invariant.disk_later);
   port_later = omega (arith, c.take_turn.ensures.stops.port_later, c.loop-turn.invariant.port_later);
   silent = λ told. c.take_turn.ensures.silent told ∙ c.loop-turn.invariant.silent told;
+  sizes = c.take_turn.ensures.stops.sizes ∙ c.loop-turn.invariant.sizes;
+  turns = λ told.
+      let start = mark_now (g.H.Outside.state c.args.host.now) in
+      let old = mark_now (g.H.Outside.state c.loop-turn.host) in
+      let new = mark_now (g.H.Outside.state c.take_turn.new.host) in
+      turns_more start old new c.loop-turn._turn (c.loop-turn.invariant.turns told) (subst (TakesTurn old new) c.in-Ok-More.field-0-is (c.in-Ok-More.ensures.taken told));
   fresh = c.in-Ok-More.ensures.free;
   becomes = λ told found was. c.in-Ok-More.ensures.becomes told found (c.loop-turn.invariant.becomes told found was);
   ready = c.in-Ok-More.ensures.ready;
@@ -121,3 +131,25 @@ pub returns-in-Err-clause-sound : goal.returns-in-Err-clause-sound
 returns-in-Err-clause-sound g c told view stands =
     let r = c.loop-turn.invariant.running told view stands in
     c.in-Err.ensures.sound told r.world r.stands
+
+pub returns-in-Ok-Done-clause-finished : goal.returns-in-Ok-Done-clause-finished
+returns-in-Ok-Done-clause-finished g c told =
+    let start = mark_now (g.H.Outside.state c.args.host.now) in
+    let old = mark_now (g.H.Outside.state c.loop-turn.host) in
+    let new = mark_now (g.H.Outside.state c.take_turn.new.host) in
+    turns_done start old new c.loop-turn._turn (c.loop-turn.invariant.turns told) (subst (TakesTurn old new) c.in-Ok-Done.field-0-is (c.in-Ok-Done.ensures.taken told))
+
+pub returns-in-Err-clause-all : goal.returns-in-Err-clause-all
+returns-in-Err-clause-all g c told budget =
+    absurd (turn_not_spent g.H.Outside.tells c.loop-turn.node.keeper.forest.meta (g.H.Outside.state c.loop-turn.host) (g.H.Outside.state c.take_turn.new.host) c.in-Err.stop budget c.in-Err.ensures.stops.stops)
+
+pub returns-in-Err-clause-damaged : goal.returns-in-Err-clause-damaged
+returns-in-Err-clause-damaged g c told damage =
+    let start = mark_now (g.H.Outside.state c.args.host.now) in
+    let old = mark_now (g.H.Outside.state c.loop-turn.host) in
+    let new = mark_now (g.H.Outside.state c.take_turn.new.host) in
+    turns_some start old new c.loop-turn._turn (c.loop-turn.invariant.turns told) (damaged_one old new c.in-Err.stop damage (c.in-Err.ensures.stopped told))
+
+pub returns-clause-all : goal.returns-clause-all
+returns-clause-all g c told budget =
+    turns_all (mark_now (g.H.Outside.state c.args.host.now)) (mark_now (g.H.Outside.state c.loop-turn.host)) c.loop-turn._turn (c.loop-turn.invariant.turns told) (omega arith)

@@ -1,6 +1,8 @@
-use Rattle.std.proofs.Common.{◌∙◌, arith}
-use Rattle.std.proofs.lemmas.Result.{on_ok_weaker}
-use Rattle.ak_host.specs.Marks.{taken}
+use Rattle.std.proofs.Common.{◌∙◌, ap, arith, inr, Result, Ok, Err}
+use Rattle.std.proofs.lemmas.Result.{IfOk-weaker, on_ok_weaker}
+use Rattle.std.specs.Prelude.{IfErr}
+use Rattle.ak_base.specs.declared.stop.Stop.{Stop}
+use Rattle.ak_host.specs.Marks.{Mark, taken}
 use Rattle.ak_tree.proofs.Becoming.{origins_same}
 use Rattle.ak_tree.proofs.Telling.{worn_weaker}
 use Rattle.ak_node.specs.Standing.{Stands, went_after}
@@ -71,3 +73,19 @@ pub returns-in-Ok-clause-becomes : goal.returns-in-Ok-clause-becomes
 returns-in-Ok-clause-becomes g c told =
     let same = origins_same (g.H.Outside.state c.args.host.now) (g.H.Outside.state c.turn.new.self) c.args.self.now.keeper.forest.meta (c.turn.ensures.disk told).files in
     on_ok_weaker c.act.result (λ acted found was. acted found (same found was)) (c.act.ensures.becomes told)
+
+if_err_all : {T : Type 0} {Q : Stop → Type 0} (r : Result T Stop) → ((s : Stop) → Q s) → IfErr r Q
+if_err_all (Ok v) all = tt
+if_err_all (Err s) all = all s
+
+pub returns-in-Ok-clause-taken : goal.returns-in-Ok-clause-taken
+returns-in-Ok-clause-taken g c told free =
+    IfOk-weaker c.act.result _ _ (λ went is. record {
+      turn = taken c.in-Ok.turn c.turn.new.into;
+      turns_are = c.act.ensures.turns told ∙ ap (λ (m : Mark). m.turns) (c.in-Ok.ensures.given told);
+      went_is = is ∙ went_same c.in-Ok.turn c.turn.new.into;
+    }) c.act.ensures.went
+
+pub returns-in-Ok-clause-stopped : goal.returns-in-Ok-clause-stopped
+returns-in-Ok-clause-stopped g c told free =
+    if_err_all c.act.result (λ stop. inr (taken c.in-Ok.turn c.turn.new.into, c.act.ensures.turns told ∙ ap (λ (m : Mark). m.turns) (c.in-Ok.ensures.given told)))
