@@ -118,7 +118,7 @@ pub fn tell_failure<R: Read + Drop, W: Write + Drop>(
     let error = failure.error;
     if !matches!(failure.call, Call::Input | Call::Output) {
         if let Some((path, cause)) = host.directory_fault() {
-            return eprintln!(rt; "akl: {path} can't be used: {cause}");
+            return eprintln!(rt; "akl: the directory `{path}` can't be used: {cause}");
         }
     }
     match failure.call {

@@ -77,8 +77,12 @@ fn tell(
 fn main(rt: HostRuntime) -> ExitCode {
     let alloc = rt.alloc();
     // Before any file is opened.
-    let Ok(held) = Held::take(&rt) else {
-        return ExitCode::from(4);
+    let held = match Held::take(&rt) {
+        Ok(held) => held,
+        Err(error) => {
+            let _ = eprintln!(rt; "akl: the places of the standard streams can't be held: {error}");
+            return ExitCode::from(4);
+        }
     };
     let Ok(words) = words_of(&rt, alloc) else {
         return ExitCode::from(5);

@@ -319,9 +319,13 @@ impl Directory {
 
     // Makes the directory, for its owner alone, and holds it. Another process may have come between, so it must be empty.
     fn make_and_hold(&mut self) -> io::Result<()> {
-        DirBuilder::new()
+        let made = DirBuilder::new()
             .mode(0o700)
-            .create(&self.rt, self.path.as_str())?;
+            .create(&self.rt, self.path.as_str());
+        if let Err(error) = made {
+            self.state = State::Unusable(error);
+            return Err(error);
+        }
         self.state = State::Unusable(in_doubt());
         let names = self.hold_and_list()?;
         if !names.is_empty() {
