@@ -80,5 +80,5 @@ exec 3>&-
 [ "$(cat "$d/out"; printf .)" = "$(printf '+OK\r\n.')" ] || { echo 'a flush was not confirmed'; status=1; }
 gives "$query" '$9\r\ncpu,1,10\n\r\n' 0 run "$d/k"
 rm -rf "$d"
-gives '' 'usage: akl [create|run|serve|soak DIR [options]]\n' 1 frob
+gives '' 'usage: akl [create|run|serve|soak DIR [options]]\n' 1 frob 2>/dev/null
 exit $status
