@@ -12,6 +12,7 @@ use Rattle.ak_node.specs.Standing.{IsReady, CanServe, Stands, AreSessions}
 use Rattle.ak_node.specs.declared.keeper.Keeper.{Keeper}
 use Rattle.ak_node.specs.declared.node.Node.{Node}
 use Rattle.ak_node.specs.declared.session.Session.{Session}
+use Rattle.ak_record.proofs.Frames.{one_frame}
 use Rattle.ak_record.proofs.Refusals.{newest_is_store}
 use Rattle.ak_record.specs.Records.{IsRecord}
 use Rattle.ak_record.specs.Stops.{IsNoStore, IsDamagedAt, IsShortAt, IsDamaged, IsOpenStop, AreMade}
@@ -250,6 +251,14 @@ found_is slot number meta files rules slot_is blocks newest_is = record {
   blocks = omega (arith, blocks, slot_is);
   newest_is = ap (λ (k : ℕ). newest k files) slot_is ∙ newest_is;
 }
+
+-- a disk has one record that is found
+pub one_found : (m n : ℕ) (c d : Content) (files : Files) → IsFoundRecord m c files → IsFoundRecord n d files → c ≡ d
+one_found m n c d files one other =
+    let slot : d.limits.slot ≡ c.limits.slot = omega (arith, one.blocks, other.blocks) in
+    let both : Some (frame_for m c) ≡ Some (frame_for n d) = sym one.newest_is ∙ ap (λ (k : ℕ). newest k files) (sym slot) ∙ other.newest_is in
+    let same : frame_for m c ≡ frame_for n d = cc in
+    (one_frame m n c d one.rules_are other.rules_are same).1
 
 -- a node that is over what was found
 pub node_found : (number : ℕ) (meta : Content) (levels : List Lists) (check : Saving) (keeper : Keeper) (node : Node) (files : Files) → node.keeper ≡ keeper → KeepsOpened meta levels check keeper → check.number ≡ number

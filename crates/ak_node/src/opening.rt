@@ -9,7 +9,7 @@ ghost use Rattle.ak_image.specs.Images.{IsSound, StandsFor};
 ghost use Rattle.ak_image.specs.Laid.{IsLaid};
 ghost use Rattle.ak_image.specs.Named.{IsDamagedNode};
 ghost use Rattle.ak_image.specs.Planted.{AreAllLawful, ArePlanted};
-ghost use Rattle.ak_meta.specs.Contents.{IsMeta, names_of, size_of};
+ghost use Rattle.ak_meta.specs.Contents.{Content, IsMeta, names_of, size_of};
 ghost use Rattle.ak_node.specs.Opening.{IsFirst, IsFoundRecord, IsNodeOpenStop, KeepsOpened};
 ghost use Rattle.ak_node.specs.Standing.{CanServe, Stands};
 ghost use Rattle.ak_record.specs.Stops.{IsNoStore, IsTaken, IsMakeStop};
@@ -193,9 +193,11 @@ impl Node {
         ensures port_faults { (D.state disk.new).port_faults ≡ (D.state disk.old).port_faults }
         ensures files { D.tells → (D.state disk.new).files ≡ (D.state disk.old).files }
         ensures sizes { (D.state disk.new).sizes ≡ (D.state disk.old).sizes }
-        // It makes no more reads than file 0 has blocks and 341 for each series, and writes nothing.
+        // It makes no more reads than file 0 has blocks and 341 for each series, also where it stops, and writes nothing.
         ensures reads { D.tells → IfOk result (λ node.
             (D.state disk.new).reads ≤ (D.state disk.old).reads + slice_index (D.state disk.old).sizes 0 + 341 * length node.keeper.forest.meta.series) }
+        ensures few { D.tells → (number : ℕ) (found : Content) → IsFoundRecord number found (D.state disk.old).files
+            → (D.state disk.new).reads ≤ (D.state disk.old).reads + slice_index (D.state disk.old).sizes 0 + 341 * length found.series }
         ensures writes { D.tells → (D.state disk.new).writes ≡ (D.state disk.old).writes }
         ensures moments { D.tells → DiskPasses (LeavesNow (D.state disk.old)) (D.state disk.old) (D.state disk.new) }
     {

@@ -1,12 +1,13 @@
-use Rattle.std.proofs.Common.{◌∙◌, rules, length, refl, sym, ap, subst, arith, [], false}
+use Rattle.std.proofs.Common.{◌∙◌, ℕ, List, rules, length, slice_index, refl, sym, ap, subst, arith, [], false}
 use Rattle.std.proofs.lemmas.Result.{err_from_is_err_and}
 use Rattle.ak_gate.specs.Slots.{newest}
 use Rattle.ak_host.specs.Files.{Files, file_at}
 use Rattle.ak_host.specs.Moments.{DiskPasses, LeavesNow}
 use Rattle.ak_host.proofs.Passing.{disk_goes_on, disk_now, stays_stable}
 use Rattle.ak_image.specs.Images.{IsSound, StandsFor}
+use Rattle.ak_meta.specs.Contents.{Content}
 use Rattle.ak_node.specs.Opening.{IsNodeOpenStop}
-use Rattle.ak_node.proofs.Starting.{open_sound, opened_ready, node_serves, node_stands, found_view, found_laid, found_holds, there_of, file_long, found_is, node_found, sound_found, stop_repaired}
+use Rattle.ak_node.proofs.Starting.{open_sound, opened_ready, node_serves, node_stands, found_view, found_laid, found_holds, there_of, file_long, found_is, one_found, node_found, sound_found, stop_repaired}
 use Rattle.ak_node.proofs.StillReady.{ready_still, holds_still}
 use Rattle.ak_repair.proofs.OnlyReading.{stop_from}
 use Rattle.ak_world.specs.Worlds.{world_of}
@@ -112,3 +113,42 @@ returns-in_err-waiting-clause-moments g c told =
     let first = c.sync_all.ensures.moments told in
     let second : DiskPasses (LeavesNow old) old (g.D.Outside.state c.open_newest.new.disk) = disk_goes_on first (c.open_newest.ensures.moments told) (disk_now first (λ disk left. left)) in
     disk_goes_on second (c.repaired.ensures.reads.moments told) (disk_now second (λ disk left. left))
+
+pub returns-in_err-waiting-clause-few : goal.returns-in_err-waiting-clause-few
+returns-in_err-waiting-clause-few g c told number found is =
+    let o = c.in_ok-opened.opened in
+    let e = c.in_ok-opened.ensures in
+    let mid = g.D.Outside.state c.open_newest.new.disk in
+    let first = c.sync_all.ensures.files told in
+    let same = c.open_newest.ensures.files told ∙ first in
+    let blocks = file_long mid (g.met.D.Disk.sized told c.open_newest.new.disk) ∙ e.gate.0.sized.blocks in
+    let here = found_is o.gate.slot o.gate.number o.meta (g.D.Outside.state c.args.disk.now).files e.rules e.gate.1 (ap (λ (f : Files). length (file_at f 0)) (sym same) ∙ blocks)
+    (ap (λ (f : Files). newest o.gate.slot f) (sym first) ∙ e.newest told) in
+    let series = ap (λ (m : Content). length m.series) (one_found o.gate.number number o.meta found (g.D.Outside.state c.args.disk.now).files here is) in
+    omega (arith, c.repaired.ensures.few told, c.open_newest.ensures.reads told, c.sync_all.ensures.reads told, ap (λ (l : List ℕ). slice_index l 0) c.sync_all.ensures.sizes, series)
+
+pub returns-in-Ok-clause-few : goal.returns-in-Ok-clause-few
+returns-in-Ok-clause-few g c told number found is =
+    let o = c.in_ok-opened.opened in
+    let e = c.in_ok-opened.ensures in
+    let mid = g.D.Outside.state c.open_newest.new.disk in
+    let first = c.sync_all.ensures.files told in
+    let same = c.open_newest.ensures.files told ∙ first in
+    let blocks = file_long mid (g.met.D.Disk.sized told c.open_newest.new.disk) ∙ e.gate.0.sized.blocks in
+    let here = found_is o.gate.slot o.gate.number o.meta (g.D.Outside.state c.args.disk.now).files e.rules e.gate.1 (ap (λ (f : Files). length (file_at f 0)) (sym same) ∙ blocks)
+    (ap (λ (f : Files). newest o.gate.slot f) (sym first) ∙ e.newest told) in
+    let series = ap (λ (m : Content). length m.series) (one_found o.gate.number number o.meta found (g.D.Outside.state c.args.disk.now).files here is) in
+    omega (arith, c.repaired.ensures.few told, c.open_newest.ensures.reads told, c.sync_all.ensures.reads told, ap (λ (l : List ℕ). slice_index l 0) c.sync_all.ensures.sizes, series)
+
+pub returns-in-Err-clause-few : goal.returns-in-Err-clause-few
+returns-in-Err-clause-few g c told number found is =
+    let o = c.in_ok-opened.opened in
+    let e = c.in_ok-opened.ensures in
+    let mid = g.D.Outside.state c.open_newest.new.disk in
+    let first = c.sync_all.ensures.files told in
+    let same = c.open_newest.ensures.files told ∙ first in
+    let blocks = file_long mid (g.met.D.Disk.sized told c.open_newest.new.disk) ∙ e.gate.0.sized.blocks in
+    let here = found_is o.gate.slot o.gate.number o.meta (g.D.Outside.state c.args.disk.now).files e.rules e.gate.1 (ap (λ (f : Files). length (file_at f 0)) (sym same) ∙ blocks)
+    (ap (λ (f : Files). newest o.gate.slot f) (sym first) ∙ e.newest told) in
+    let series = ap (λ (m : Content). length m.series) (one_found o.gate.number number o.meta found (g.D.Outside.state c.args.disk.now).files here is) in
+    omega (arith, c.repaired.ensures.few told, c.open_newest.ensures.reads told, c.sync_all.ensures.reads told, ap (λ (l : List ℕ). slice_index l 0) c.sync_all.ensures.sizes, series)
