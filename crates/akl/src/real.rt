@@ -1,12 +1,16 @@
 //! A host over the real outside: files in a directory or in memory, and standard input and output.
-ghost use Rattle.std.specs.Prelude.{◌≡◌, ◌≤◌, ◌<◌, ◌^◌, [], length, Ok, IfOk, OnOk, OnErr, IsSome};
+ghost use Rattle.std.specs.Prelude.{◌≡◌, ◌⊎◌, ◌≤◌, ◌<◌, ◌-◌, ◌^◌, [], ◌∷◌, true, false, length, Ok, IfOk, OnOk, OnErr, IsSome, IfSome};
+ghost use Rattle.akl.specs.Calls.{making, EndsWith, IsReadSettled, IsSynced, are_names_settled, is_in_doubt};
+ghost use Rattle.akl.specs.Media.{calls_of};
 ghost use Rattle.ak_host.specs.Causes.{HasCause, Rose};
+ghost use Rattle.ak_host.specs.Files.{with_item};
 
 mod console;
 mod directory;
 mod failure;
 mod items;
 mod memory;
+mod system;
 
 use ak_host::{Block, Disk, Failed, Host, Outside, Ports, Turn};
 use console::Console;
@@ -17,6 +21,7 @@ use memory::Memory;
 use std::alloc::{AllocError, Global};
 use std::io;
 use std::io::{Read, Write};
+use system::SystemCall;
 
 // What the files stand on.
 #[derive(Drop)]
@@ -26,21 +31,27 @@ enum Medium {
 }
 
 impl Medium {
-    fn make(&mut self, file: u32, blocks: u32) -> io::Result<()> {
+    fn make(&mut self, file: u32, blocks: u32) -> io::Result<()>
+        ensures made { OnOk result (IfSome (calls_of self.new) (EndsWith (making file))) }
+    {
         match self {
             Medium::Directory(directory) => directory.make(file, blocks),
             Medium::Memory(memory) => Ok(memory.make(file, blocks)?),
         }
     }
 
-    fn read(&mut self, file: u32, index: u32, into: &mut Block) -> io::Result<()> {
+    fn read(&mut self, file: u32, index: u32, into: &mut Block) -> io::Result<()>
+        ensures read { OnOk result (IfSome (calls_of self.new) (IsReadSettled file)) }
+    {
         match self {
             Medium::Directory(directory) => directory.read(file, index, into),
             Medium::Memory(memory) => memory.read(file, index, into),
         }
     }
 
-    fn write(&mut self, file: u32, index: u32, from: &Block) -> io::Result<()> {
+    fn write(&mut self, file: u32, index: u32, from: &Block) -> io::Result<()>
+        ensures written { OnOk result (IfSome (calls_of self.new) (EndsWith ((SystemCall.Written file, true) ∷ []))) }
+    {
         match self {
             Medium::Directory(directory) => directory.write(file, index, from),
             Medium::Memory(memory) => memory.write(file, index, from),
@@ -48,7 +59,11 @@ impl Medium {
     }
 
     // Files in memory outlast no stop, so there is nothing to be done for them.
-    fn sync(&mut self, file: u32) -> io::Result<()> {
+    fn sync(&mut self, file: u32) -> io::Result<()>
+        ensures synced { OnOk result (IfSome (calls_of self.new) (IsSynced file)) }
+        ensures names { OnOk result (IfSome (calls_of self.new) (λ calls. are_names_settled calls ≡ true)) }
+        ensures certain { OnOk result (IfSome (calls_of self.new) (λ calls. is_in_doubt file calls ≡ false)) }
+    {
         match self {
             Medium::Directory(directory) => directory.sync(file),
             Medium::Memory(_) => Ok(()),
@@ -217,7 +232,15 @@ impl<R: Read + Drop, W: Write + Drop> Disk for RealHost<R, W> {
         self.sizes[file as usize]
     }
 
-    fn make(&mut self, file: u32, blocks: u32) -> Result<(), Failed> {
+    fn make(&mut self, file: u32, blocks: u32) -> Result<(), Failed>
+        requires room { file < 2 ^ 32 - 1 }
+        ensures sizes { OnOk result (self.new.sizes.items ≡ with_item self.old.sizes.items file blocks) }
+        ensures sizes_err { OnErr result ((self.new.sizes.items ≡ self.old.sizes.items)
+            ⊎ (self.new.sizes.items ≡ with_item self.old.sizes.items file blocks)) }
+        ensures cause { HasCause self.old.disk_faults self.new.disk_faults result }
+        ensures port_faults { self.new.port_faults ≡ self.old.port_faults }
+        ensures made { OnOk result (IfSome (calls_of self.new.medium) (EndsWith (making file))) }
+    {
         let made = self.medium.make(file, blocks);
         counted(
             made,
@@ -233,7 +256,12 @@ impl<R: Read + Drop, W: Write + Drop> Disk for RealHost<R, W> {
         )
     }
 
-    fn read(&mut self, file: u32, index: u32, into: &mut Block) -> Result<(), Failed> {
+    fn read(&mut self, file: u32, index: u32, into: &mut Block) -> Result<(), Failed>
+        ensures sizes { self.new.sizes.items ≡ self.old.sizes.items }
+        ensures cause { HasCause self.old.disk_faults self.new.disk_faults result }
+        ensures port_faults { self.new.port_faults ≡ self.old.port_faults }
+        ensures read { OnOk result (IfSome (calls_of self.new.medium) (IsReadSettled file)) }
+    {
         counted(
             self.medium.read(file, index, into),
             Call::Read(file, index),
@@ -242,7 +270,12 @@ impl<R: Read + Drop, W: Write + Drop> Disk for RealHost<R, W> {
         )
     }
 
-    fn write(&mut self, file: u32, index: u32, from: &Block) -> Result<(), Failed> {
+    fn write(&mut self, file: u32, index: u32, from: &Block) -> Result<(), Failed>
+        ensures sizes { self.new.sizes.items ≡ self.old.sizes.items }
+        ensures cause { HasCause self.old.disk_faults self.new.disk_faults result }
+        ensures port_faults { self.new.port_faults ≡ self.old.port_faults }
+        ensures written { OnOk result (IfSome (calls_of self.new.medium) (EndsWith ((SystemCall.Written file, true) ∷ []))) }
+    {
         counted(
             self.medium.write(file, index, from),
             Call::Write(file, index),
@@ -251,7 +284,14 @@ impl<R: Read + Drop, W: Write + Drop> Disk for RealHost<R, W> {
         )
     }
 
-    fn sync(&mut self, file: u32) -> Result<(), Failed> {
+    fn sync(&mut self, file: u32) -> Result<(), Failed>
+        ensures sizes { self.new.sizes.items ≡ self.old.sizes.items }
+        ensures cause { HasCause self.old.disk_faults self.new.disk_faults result }
+        ensures port_faults { self.new.port_faults ≡ self.old.port_faults }
+        ensures synced { OnOk result (IfSome (calls_of self.new.medium) (IsSynced file)) }
+        ensures names { OnOk result (IfSome (calls_of self.new.medium) (λ calls. are_names_settled calls ≡ true)) }
+        ensures certain { OnOk result (IfSome (calls_of self.new.medium) (λ calls. is_in_doubt file calls ≡ false)) }
+    {
         counted(
             self.medium.sync(file),
             Call::Sync(file),

@@ -1,14 +1,17 @@
 //! Files of blocks in a directory.
-ghost use Rattle.std.specs.Prelude.{◌≡◌, ◌*◌, ◌/◌, ◌-◌, ◌^◌, ◌<◌, [], min, length, IfOk, OnOk};
+ghost use Rattle.std.specs.Prelude.{◌≡◌, ◌/◌, ◌-◌, ◌^◌, ◌<◌, ◌≤◌, ◌++◌, [], true, false, min, length, Some, Ok, IfOk, OnOk, OnErr, slice_get};
+ghost use Rattle.akl.specs.Calls.{noted, holding, zeroing, making, settling, EndsWith, HasFailedToSettle, IsReadSettled, IsSynced, are_names_settled, is_in_doubt};
+ghost use Rattle.akl.specs.Opens.{given_up, with_mark, marked, is_marked, is_refused, settles, IsKept};
 
 use super::items::put_item;
+use super::system;
+use super::system::{Calls, SystemCall};
 use ak_host::Block;
 use std::alloc::{AllocError, Global};
 use std::collections::BTreeSet;
-use std::fs::{DirBuilder, File, OpenOptions, TryLockError};
+use std::fs::{DirBuilder, File, OpenOptions};
 use std::io::ErrorKind;
-use std::os::fd::AsRawFd;
-use std::os::unix::fs::{DirBuilderExt, FileExt, OpenOptionsExt};
+use std::os::unix::fs::DirBuilderExt;
 use std::{fs, io};
 
 // The blocks that a file counts with whose length isn't told.
@@ -39,6 +42,8 @@ pub struct Directory {
     // Whether the names up to here were made to last.
     settled: bool,
     files: Vec<io::Result<Opened>>,
+    calls: Calls,
+    ghost kept: { IsKept settled files.items calls.items },
 }
 
 // An open file.
@@ -74,37 +79,11 @@ fn name_of(alloc: Global, file: u32) -> Result<String, AllocError> {
     }
 }
 
-// The place of a block in its file.
-fn offset_of(index: u32) -> u64
-    ensures { result ≡ index * 4096 }
-{
-    u64::from(index) * 4096
-}
-
 // The blocks of a file of this length.
 fn blocks_in(length: u64) -> u32
     ensures { result ≡ min (length / 4096) (2 ^ 32 - 1) }
 {
     u32::try_from(length / 4096).unwrap_or(u32::MAX)
-}
-
-// The names in a directory, but for those that aren't UTF-8.
-fn list(rt: &HostRuntime, path: &str) -> io::Result<BTreeSet<String>> {
-    let mut names = BTreeSet::new(rt.alloc());
-    for entry in fs::read_dir(rt, path)? {
-        match entry {
-            Ok(entry) => {
-                let name = String::from_str(rt.alloc(), entry.file_name())?;
-                names.insert(name)?;
-            }
-            Err(error) => {
-                if error.kind() != ErrorKind::InvalidFilename {
-                    return Err(error);
-                }
-            }
-        }
-    }
-    Ok(names)
 }
 
 // Whether a name is one of a volume's file.
@@ -130,7 +109,9 @@ fn check_names(names: &BTreeSet<String>) -> io::Result<()> {
 }
 
 // Opens a file that is there, for reading and writing.
-fn open_file(rt: &HostRuntime, path: &str) -> io::Result<(Opened, u32)> {
+fn open_file(rt: &HostRuntime, path: &str) -> io::Result<(Opened, u32)>
+    ensures { IfOk result (λ found. found.0.settled ≡ false) }
+{
     let file = OpenOptions::new().read(true).write(true).open(rt, path)?;
     let blocks = blocks_in(file.metadata()?.len());
     Ok((
@@ -143,7 +124,9 @@ fn open_file(rt: &HostRuntime, path: &str) -> io::Result<(Opened, u32)> {
 }
 
 // Opens a file that is there, or tells why it can't be used.
-fn find_file(rt: &HostRuntime, path: &str) -> Found {
+fn find_file(rt: &HostRuntime, path: &str) -> Found
+    ensures { settles result.file ≡ false }
+{
     match open_file(rt, path) {
         Ok((opened, blocks)) => Found {
             file: Ok(opened),
@@ -162,74 +145,54 @@ fn find_file(rt: &HostRuntime, path: &str) -> Found {
     }
 }
 
-// Takes a name away, where it is there.
-fn remove_left_over(rt: &HostRuntime, path: &str) -> io::Result<()> {
-    match fs::remove_file(rt, path) {
-        Ok(()) => Ok(()),
-        Err(error) => {
-            if error.kind() == ErrorKind::NotFound {
-                return Ok(());
-            }
-            Err(error)
-        }
+// The open file of this number.
+fn find_open(files: &[io::Result<Opened>], file: u32) -> io::Result<&Opened>
+    ensures { IfOk result (λ opened. slice_get files.now file ≡ Some (Ok opened.now)) }
+{
+    match files.get(file as usize) {
+        Some(Ok(opened)) => Ok(opened),
+        Some(Err(error)) => Err(*error),
+        None => Err(no_file()),
     }
 }
 
-// Fills a new file with zero blocks, whose bytes a power cut leaves.
-fn write_zeros(file: &File, blocks: u32) -> io::Result<()> {
-    let zeros = [0; 4096];
-    for index in 0..blocks {
-        file.write_all_at(&zeros, offset_of(index))?;
-    }
-    file.sync_all()
-}
-
-// Makes a file of zero blocks. What has the name is taken away first, so that no link is followed. Where it fails for want
-// of room, it leaves no part of the file.
-fn make_zeros(rt: &HostRuntime, path: &str, blocks: u32) -> io::Result<File> {
-    remove_left_over(rt, path)?;
-    let file = OpenOptions::new()
-        .read(true)
-        .write(true)
-        .create_new(true)
-        .mode(0o600)
-        .open(rt, path)?;
-    if let Err(error) = write_zeros(&file, blocks) {
-        let _ = remove_left_over(rt, path);
-        return Err(error);
-    }
-    Ok(file)
-}
-
-// Opens a directory, and locks it until it is closed, which a kill does too.
-fn hold(rt: &HostRuntime, path: &str) -> io::Result<File> {
-    if path.is_empty() {
-        return Err(io::Error::from(ErrorKind::NotFound));
-    }
-    // By the dot a file in its place is refused, and not waited for.
-    let dot = format!(in rt.alloc(); "{path}/.")?;
-    let held = File::open(rt, dot.as_str())?;
-    match held.try_lock() {
-        Ok(()) => Ok(held),
-        Err(TryLockError::WouldBlock) => Err(io::Error::new(
-            ErrorKind::ResourceBusy,
-            "another process is at work in it",
-        )),
-        Err(TryLockError::Error(error)) => Err(error),
+// Closes a file that is open, and keeps the cause.
+fn give_up(files: &mut Vec<io::Result<Opened>>, file: u32, cause: io::Error)
+    ensures { files.new.items ≡ given_up files.old.items file cause }
+{
+    if (file as usize) < files.len() {
+        files[file as usize] = Err(cause);
     }
 }
 
-// Makes what a read gives be what a stop leaves: all that is in memory alone is written to the disk, and then the system's
-// copies are given up, so that reads come from the disk. For where a sync failed in an earlier process, the system keeps
-// what it couldn't write, takes it for written, and lets the next sync succeed.
-fn settle(file: &File) -> io::Result<()> {
-    file.sync_all()?;
-    let advised = libc::posix_fadvise(file.as_raw_fd(), 0, 0, libc::POSIX_FADV_DONTNEED);
-    if advised == 0 {
-        Ok(())
-    } else {
-        Err(io::Error::from_raw_os_error(advised))
+// Notes of a file that it is settled, where it is open.
+fn mark_item(item: &mut io::Result<Opened>)
+    ensures { item.new ≡ with_mark item.old }
+{
+    if let Ok(opened) = item {
+        opened.settled = true;
     }
+}
+
+// Notes of a file in the list that it is settled, where it is open.
+fn mark(files: &mut Vec<io::Result<Opened>>, file: u32)
+    ensures { files.new.items ≡ marked files.old.items file }
+{
+    if (file as usize) < files.len() {
+        mark_item(&mut files[file as usize]);
+    }
+}
+
+// Syncs a file, and has the system give up its copies of `meta`.
+fn settle(calls: &mut Calls, file: u32, opened: &File) -> io::Result<()>
+    ensures ok { OnOk result (calls.new.items ≡ calls.old.items ++ settling file) }
+    ensures err { OnErr result (HasFailedToSettle file calls.old.items calls.new.items) }
+{
+    system::sync(calls, file, opened)?;
+    if file == 0 {
+        system::drop_copies(calls, file, opened)?;
+    }
+    Ok(())
 }
 
 impl Directory {
@@ -248,26 +211,39 @@ impl Directory {
             held: None,
             settled: false,
             files: Vec::new(alloc),
+            calls: Calls::new(),
         };
         let mut sizes = Vec::new(alloc);
-        match directory.hold_and_list() {
+        directory.open_all(&mut sizes)?;
+        Ok((directory, sizes))
+    }
+
+    // Holds the directory, and opens its files. It tells the blocks of each.
+    fn open_all(&mut self, sizes: &mut Vec<u32>) -> Result<(), AllocError>
+        requires { sizes.old.items ≡ [] }
+        ensures { length sizes.new.items < 2 ^ 32 }
+    {
+        match self.hold_and_list() {
             Ok(names) => {
                 if let Err(error) = check_names(&names) {
-                    directory.state = State::Unusable(error);
+                    self.state = State::Unusable(error);
                 }
-                directory.open_files(&names, &mut sizes)?;
+                self.open_files(&names, sizes)
             }
             Err(error) => match error.kind() {
-                ErrorKind::OutOfMemory => return Err(AllocError),
-                ErrorKind::NotFound => directory.state = State::Absent,
+                ErrorKind::OutOfMemory => Err(AllocError),
+                ErrorKind::NotFound => {
+                    self.state = State::Absent;
+                    Ok(())
+                }
                 _ => {
-                    directory.state = State::Unusable(error);
-                    directory.files.push(Err(error))?;
+                    self.state = State::Unusable(error);
+                    self.files.push(Err(error))?;
                     sizes.push(UNTOLD)?;
+                    Ok(())
                 }
             },
         }
-        Ok((directory, sizes))
     }
 
     /// Why nothing more can be made or synced in the directory, and its path.
@@ -279,9 +255,11 @@ impl Directory {
     }
 
     // Locks the directory, and then lists it, so that nobody changes it in between.
-    fn hold_and_list(&mut self) -> io::Result<BTreeSet<String>> {
-        let held = hold(&self.rt, self.path.as_str())?;
-        let names = list(&self.rt, self.path.as_str())?;
+    fn hold_and_list(&mut self) -> io::Result<BTreeSet<String>>
+        ensures calls { OnOk result (self.new.calls.items ≡ self.old.calls.items ++ holding) }
+    {
+        let held = system::lock(&mut self.calls, &self.rt, self.path.as_str())?;
+        let names = system::list(&mut self.calls, &self.rt, self.path.as_str())?;
         self.held = Some(held);
         Ok(names)
     }
@@ -346,11 +324,14 @@ impl Directory {
     }
 
     // Makes the names in the directory last over a power cut. After a failure nothing more is made or synced.
-    fn sync_names(&mut self) -> io::Result<()> {
-        let synced = match &self.held {
-            Some(held) => held.sync_all(),
-            None => Err(no_file()),
+    fn sync_names(&mut self) -> io::Result<()>
+        ensures calls { OnOk result (self.new.calls.items ≡ noted self.old.calls.items SystemCall.NamesSynced true) }
+        ensures files { self.new.files ≡ self.old.files }
+    {
+        let Some(held) = &self.held else {
+            return Err(no_file());
         };
+        let synced = system::sync_names(&mut self.calls, held);
         if let Err(error) = synced {
             self.state = State::Unusable(error);
         }
@@ -358,14 +339,11 @@ impl Directory {
     }
 
     // Makes the directory's own name last over a power cut.
-    fn sync_own_name(&mut self) -> io::Result<()> {
-        let path = self.path.as_str();
-        let alloc = self.rt.alloc();
-        let parent = format!(in alloc; "{path}/..")?;
-        let synced = match File::open(&self.rt, parent.as_str()) {
-            Ok(parent) => parent.sync_all(),
-            Err(error) => Err(error),
-        };
+    fn sync_own_name(&mut self) -> io::Result<()>
+        ensures calls { OnOk result (self.new.calls.items ≡ noted self.old.calls.items SystemCall.OwnNameSynced true) }
+        ensures files { self.new.files ≡ self.old.files }
+    {
+        let synced = system::sync_own_name(&mut self.calls, &self.rt, self.path.as_str());
         if let Err(error) = synced {
             self.state = State::Unusable(error);
         }
@@ -374,7 +352,10 @@ impl Directory {
 
     // Makes all names last over a power cut, before the first file is made or synced: the process that made them may have
     // been stopped before it did so.
-    fn settle_names(&mut self) -> io::Result<()> {
+    fn settle_names(&mut self) -> io::Result<()>
+        ensures settled { OnOk result (self.new.settled ≡ true) }
+        ensures files { self.new.files ≡ self.old.files }
+    {
         if let State::Unusable(error) = self.state {
             return Err(error);
         }
@@ -386,29 +367,59 @@ impl Directory {
         Ok(())
     }
 
-    // Fails at a file that is there and can't be used.
-    fn check_usable(&self, file: u32) -> io::Result<()> {
+    // Fails at a file that is there and can't be used, and past the next one.
+    fn check_usable(&self, file: u32) -> io::Result<()>
+        ensures next { OnOk result (file ≤ length self.now.files.items) }
+        ensures usable { OnOk result (is_refused self.now.files.items file ≡ false) }
+    {
         match self.files.get(file as usize) {
+            Some(Ok(_)) => Ok(()),
             Some(Err(error)) => Err(*error),
-            _ => Ok(()),
+            None => {
+                if file as usize > self.files.len() {
+                    return Err(no_file());
+                }
+                Ok(())
+            }
         }
+    }
+
+    // Makes a new file of zeros under this name, which a power cut leaves. Where it fails, it leaves no part of the file.
+    fn make_zeros(&mut self, file: u32, path: &str, blocks: u32) -> io::Result<File>
+        ensures calls { OnOk result (self.new.calls.items ≡ self.old.calls.items ++ zeroing file) }
+        ensures files { self.new.files ≡ self.old.files }
+    {
+        let made = system::zero(&mut self.calls, file, &self.rt, path, blocks)?;
+        if let Err(error) = system::sync_zeros(&mut self.calls, file, &made) {
+            let _ = system::remove_left_over(&self.rt, path);
+            return Err(error);
+        }
+        Ok(made)
     }
 
     /// Makes a file of zero blocks, the next one or in the place of one that is there.
     ///
     /// Where it fails from the renaming on, it isn't known which file has the name. So a file that was there is given up,
     /// and each later call on it fails.
-    pub fn make(&mut self, file: u32, blocks: u32) -> io::Result<()> {
+    pub fn make(&mut self, file: u32, blocks: u32) -> io::Result<()>
+        ensures made { OnOk result (EndsWith (making file) self.new.calls.items) }
+    {
         self.make_directory()?;
-        self.check_usable(file)?;
         self.settle_names()?;
+        self.check_usable(file)?;
         let alloc = self.rt.alloc();
         let path = self.path_of(file)?;
         let temporary = format!(in alloc; "{path}.tmp")?;
-        let made = make_zeros(&self.rt, temporary.as_str(), blocks)?;
         self.files.reserve(1)?;
-        self.give_up(file, in_doubt());
-        fs::rename(&self.rt, temporary.as_str(), path.as_str())?;
+        let made = self.make_zeros(file, temporary.as_str(), blocks)?;
+        give_up(&mut self.files, file, in_doubt());
+        system::rename(
+            &mut self.calls,
+            file,
+            &self.rt,
+            temporary.as_str(),
+            path.as_str(),
+        )?;
         self.sync_names()?;
         let opened = Opened {
             file: made,
@@ -418,74 +429,64 @@ impl Directory {
         Ok(())
     }
 
-    // Closes a file that is open, and keeps the cause.
-    fn give_up(&mut self, file: u32, cause: io::Error) {
-        if (file as usize) < self.files.len() {
-            self.files[file as usize] = Err(cause);
-        }
-    }
-
-    // The open file of this number.
-    fn usable(&self, file: u32) -> io::Result<&File> {
-        match self.files.get(file as usize) {
-            Some(Ok(opened)) => Ok(&opened.file),
-            Some(Err(error)) => Err(*error),
-            None => Err(no_file()),
-        }
-    }
-
     // Syncs a file that was there, and all names, before its first read or sync. Answers whether that was so already. After a
     // failure each later call on the file fails.
     //
-    // `meta` is read from the disk then. Of a volume that isn't needed: what is read there is named by a view, and its blocks
-    // were synced by the process that took the view, before it opened the gate.
-    fn settle_file(&mut self, file: u32) -> io::Result<bool> {
+    // `meta` is read from the disk then: where a sync failed in an earlier process, the system keeps what it couldn't write,
+    // takes it for written, and lets the next sync succeed. Of a volume that isn't needed: what is read there is named by a
+    // view, and its blocks were synced by the process that took the view, before it opened the gate.
+    fn settle_file(&mut self, file: u32) -> io::Result<bool>
+        ensures names { OnOk result (are_names_settled self.new.calls.items ≡ true) }
+        ensures settled { OnOk result (is_marked self.new.files.items file ≡ true) }
+        ensures synced { result ≡ Ok false → EndsWith (settling file) self.new.calls.items }
+    {
         self.settle_names()?;
-        let is_meta = file == 0;
-        let settled = match self.files.get_mut(file as usize) {
-            Some(Ok(opened)) => {
-                if opened.settled {
-                    return Ok(true);
-                }
-                opened.settled = true;
-                if is_meta {
-                    settle(&opened.file)
-                } else {
-                    opened.file.sync_all()
-                }
-            }
-            Some(Err(error)) => Err(*error),
-            None => Err(no_file()),
-        };
+        let opened = find_open(&self.files, file)?;
+        if opened.settled {
+            return Ok(true);
+        }
+        let settled = settle(&mut self.calls, file, &opened.file);
         if let Err(error) = settled {
-            self.give_up(file, error);
+            give_up(&mut self.files, file, error);
             return Err(error);
         }
+        mark(&mut self.files, file);
         Ok(false)
     }
 
     /// Reads a block. It fails where the file ends before the block does.
-    pub fn read(&mut self, file: u32, index: u32, into: &mut Block) -> io::Result<()> {
+    pub fn read(&mut self, file: u32, index: u32, into: &mut Block) -> io::Result<()>
+        ensures read { OnOk result (IsReadSettled file self.new.calls.items) }
+    {
         self.settle_file(file)?;
-        self.usable(file)?.read_exact_at(into, offset_of(index))
+        let opened = find_open(&self.files, file)?;
+        system::read(&mut self.calls, file, &opened.file, index, into)
     }
 
     /// Writes a block.
-    pub fn write(&self, file: u32, index: u32, from: &Block) -> io::Result<()> {
-        self.usable(file)?.write_all_at(from, offset_of(index))
+    pub fn write(&mut self, file: u32, index: u32, from: &Block) -> io::Result<()>
+        ensures written { OnOk result (self.new.calls.items ≡ noted self.old.calls.items (SystemCall.Written file) true) }
+    {
+        let opened = find_open(&self.files, file)?;
+        system::write(&mut self.calls, file, &opened.file, index, from)
     }
 
     /// Makes what was written to a file last over a power cut, and with the first call all names.
     ///
     /// After a failure the system may take for written what isn't, and a second sync would succeed. So each later call on
     /// the file fails.
-    pub fn sync(&mut self, file: u32) -> io::Result<()> {
+    pub fn sync(&mut self, file: u32) -> io::Result<()>
+        ensures synced { OnOk result (IsSynced file self.new.calls.items) }
+        ensures names { OnOk result (are_names_settled self.new.calls.items ≡ true) }
+        ensures certain { OnOk result (is_in_doubt file self.new.calls.items ≡ false) }
+    {
         if !self.settle_file(file)? {
             return Ok(());
         }
-        let synced = self.usable(file)?.sync_all();
+        let opened = find_open(&self.files, file)?;
+        let synced = system::sync(&mut self.calls, file, &opened.file);
         if let Err(error) = synced {
-            self.give_up(file, error);
+            give_up(&mut self.files, file, error);
         }
         synced
     }
