@@ -1,5 +1,5 @@
 -- Small laws that proofs of every layer use.
-use Rattle.std.proofs.Common.{ℕ, ◌≡◌, ◌≤◌, List, [], ◌∷◌, ◌++◌, length, Bool, true, false, nat_eq, refl, arith, suc, lit≤}
+use Rattle.std.proofs.Common.{ℕ, ◌≡◌, ◌≤◌, List, [], ◌∷◌, ◌++◌, length, Bool, true, false, nat_eq, refl, arith, suc}
 use Rattle.std.proofs.lemmas.Bool.Decides.{nat_tests}
 
 pub not_both : (b : Bool) → b ≡ true → b ≡ false → ⊥

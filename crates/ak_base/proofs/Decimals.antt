@@ -1,5 +1,5 @@
 -- Texts of decimals and the units that they read as.
-use Rattle.std.proofs.Common.{◌≡◌, ◌≢◌, ℕ, zero, suc, ◌+◌, ◌-◌, ◌*◌, ◌^◌, ◌<◌, ◌≤◌, min, inl, inr, false, ◌==◌, List, [], ◌∷◌, ◌++◌, length, get_or, take, drop, Option, Some, None, IfSome, IfNone, SomeIff, refl, sym, ap, ap₂, subst, ◌∙◌, arith, rules, take_all, take-append-drop, length-append}
+use Rattle.std.proofs.Common.{◌≡◌, ◌≢◌, ℕ, zero, suc, ◌+◌, ◌-◌, ◌*◌, ◌^◌, ◌<◌, ◌≤◌, min, inl, inr, false, ◌==◌, List, [], ◌∷◌, ◌++◌, length, get_or, take, drop, Option, Some, None, IfSome, IfNone, SomeIff, refl, sym, ap, ap₂, subst, ◌∙◌, arith, rules, take_all, take-append-drop, length-append, append-nil}
 use Rattle.std.proofs.lemmas.Bool.Decides.{nat_tests}
 use Rattle.std.proofs.lemmas.List.{take_min, drop_min}
 use Rattle.std.specs.Char.{digit_value}
@@ -145,3 +145,29 @@ units_none text f i scale w (Some u) front point h = tt
 units_none text f i scale w None front point h = λ n s.
     let same = same_fraction text f i scale n front point s in
     h (subst (IsExact scale) (sym same) (s.fraction_digits, s.exact))
+
+nothing_taken : (k : ℕ) → take {A = ℕ} k [] ≡ []
+nothing_taken zero = refl
+nothing_taken (suc k) = refl
+
+no_zeros : (k : ℕ) → AreZeros (drop k [])
+no_zeros zero = tt
+no_zeros (suc k) = tt
+
+-- a text of digits alone reads as their number, raised by the scale
+pub plain_units : (text : List ℕ) (scale n : ℕ) → 0 < length text → AllDigits 10 text → n ≡ digits_value_after 10 0 text → ReadsUnits text scale (n * 10 ^ scale)
+plain_units text scale n long digits is = record {
+  whole = text;
+  tail = [];
+  fraction = [];
+  parts = sym (append-nil text);
+  point = inl (refl, refl);
+  whole_digits = digits;
+  fraction_digits = tt;
+  some = some_digits text [] (omega (arith, long));
+  exact = no_zeros scale;
+  value =
+      let whole_power : scale ≡ scale - 0 = omega arith in
+      ap₂ (λ m k. m * 10 ^ k) (is ∙ ap (digits_value_after 10 0) (sym (append-nil text))) whole_power
+      ∙ ap (λ (l : List ℕ). digits_value_after 10 0 (text ++ l) * 10 ^ (scale - length l)) (sym (nothing_taken scale));
+}

@@ -1,6 +1,8 @@
 -- Decimal digits, and numbers that are kept up to a greatest one.
-use Rattle.std.proofs.Common.{◌≡◌, ℕ, zero, suc, ◌+◌, ◌-◌, ◌*◌, ◌^◌, ◌<◌, ◌≤◌, min, inl, inr, true, false, List, [], ◌∷◌, ◌++◌, length, get_or, take, drop, refl, sym, ap, subst, ◌∙◌, arith, take-suc, pow-suc, le-mul_of_pos_right}
+use Rattle.std.proofs.Common.{◌≡◌, ℕ, zero, suc, ◌+◌, ◌-◌, ◌*◌, ◌^◌, ◌<◌, ◌≤◌, min, inl, inr, true, false, List, [], ◌∷◌, ◌++◌, length, get_or, take, drop, refl, sym, ap, subst, ◌∙◌, arith, take-suc, pow-suc, le-mul_of_pos_right, length-take-le}
+use Rattle.std.proofs.Math.Nat.{pow-le-pow_right}
 use Rattle.std.proofs.lemmas.Bool.{cases_lt}
+use Rattle.std.proofs.lemmas.Int.Digits.{digits_value-lt}
 use Rattle.std.proofs.lemmas.Bool.Decides.{nat_tests}
 use Rattle.std.specs.Char.{is_ascii_digit, digit_value}
 use Rattle.std.specs.Str.Parse.{AllDigits, digits_value_after}
@@ -31,6 +33,19 @@ after_more n ds i h =
 pub after_kept : (m n : ℕ) (ds : List ℕ) → min m (2 ^ 64 - 1) ≡ min n (2 ^ 64 - 1) → min (digits_value_after 10 m ds) (2 ^ 64 - 1) ≡ min (digits_value_after 10 n ds) (2 ^ 64 - 1)
 after_kept m n [] e = e
 after_kept m n (d ∷ ds) e = after_kept (m * 10 + digit_value d) (n * 10 + digit_value d) ds (omega (arith, e))
+
+tens_rise : (ds : List ℕ) → length ds < 19 → 10 ^ length ds ≤ 10 ^ 18
+tens_rise ds few =
+    let ten : 0 < 10 = omega arith in
+    let less : length ds ≤ 18 = omega arith in
+    pow-le-pow_right ten less
+
+-- fewer than 19 digits write a number below 10 ^ 18
+pub short_below : (ds : List ℕ) → AllDigits 10 ds → length ds < 19 → digits_value_after 10 0 ds < 10 ^ 18
+short_below ds digits few = omega (arith, digits_value-lt 10 ds digits, tens_rise ds few)
+
+pub short_more : (text : List ℕ) (i n : ℕ) → length text ≤ 19 → i < length text → AllDigits 10 (take i text) → n ≡ digits_value_after 10 0 (take i text) → n < 10 ^ 18
+short_more text i n few within digits is = omega (arith, short_below (take i text) digits (omega (arith, length-take-le i text (omega arith))), is)
 
 pub tens_pos : (k : ℕ) → 0 < 10 ^ k
 tens_pos zero = omega arith

@@ -3,3 +3,4 @@ pub mod Refusals
 pub mod Stops
 pub mod Ranges
 pub mod Values
+pub mod Selections

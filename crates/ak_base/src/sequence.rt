@@ -1,5 +1,5 @@
 //! Lists, which contracts see as lists.
-ghost use Rattle.std.specs.Prelude.{◌≡◌, ◌++◌, ◌∷◌, [], OnOk, OnErr};
+ghost use Rattle.std.specs.Prelude.{◌≡◌, ◌≤◌, ◌+◌, ◌++◌, ◌∷◌, [], length, take, drop, OnOk, OnErr};
 ghost use Rattle.std.specs.Fmt.{decimal};
 
 use crate::text::Text;
@@ -70,6 +70,14 @@ impl<T> Sequence<T> {
 }
 
 impl Sequence<u8> {
+    /// Writes bytes over those that stand from a place on, as many.
+    pub fn overwrite(&mut self, at: usize, bytes: &[u8])
+        requires { at + length bytes.now ≤ length self.old }
+        ensures { self.new ≡ take at self.old ++ (bytes.now ++ drop (at + length bytes.now) self.old) }
+    {
+        self.items[at..at + bytes.len()].copy_from_slice(bytes);
+    }
+
     /// Appends bytes. After an `Err` the list is as it was.
     pub fn extend(&mut self, alloc: Global, bytes: &[u8]) -> Result<(), AllocError>
         ensures ok { OnOk result (self.new ≡ self.old ++ bytes.now) }

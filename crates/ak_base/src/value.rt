@@ -3,7 +3,7 @@ ghost use Rattle.std.specs.Prelude.{◌≡◌, ◌↔◌, ℕ, ℤ, ◌-◌, ◌
 ghost use Rattle.std.specs.Str.Parse.{AllDigits, digits_value_after};
 ghost use Rattle.ak_base.specs.Values.{IsValue, AreZeros, IsTail, ReadsUnits, ReadsValue, Answers};
 
-use crate::digits::digits_at_front;
+use crate::digits::{digits_at_front, short_number};
 use crate::refusal::Refusal;
 
 // Whether each byte is a `0`.
@@ -45,8 +45,18 @@ fn with_fraction(whole: u64, fraction: &[u8], scale: u32) -> Option<u64>
     if !are_zeros(past) {
         return None;
     }
-    let missing = 10_u64.pow(scale - places as u32);
-    Some(front.number.saturating_mul(missing))
+    Some(raised(front.number, scale - places as u32))
+}
+
+// A number times a power of ten, and 2^64 - 1 where that is more.
+fn raised(number: u64, power: u32) -> u64
+    requires { power ≤ 9 }
+    ensures { result ≡ min (number * 10 ^ power) (2 ^ 64 - 1) }
+{
+    if power == 0 {
+        return number;
+    }
+    number.saturating_mul(10_u64.pow(power))
 }
 
 // The units of a text without a sign, and 2^64 - 1 where they are more.
@@ -55,6 +65,9 @@ fn read_units(text: &[u8], scale: u32) -> Option<u64>
     ensures some { IfSome result (λ units. (n : ℕ) × ReadsUnits text.now scale n × (units ≡ min n (2 ^ 64 - 1))) }
     ensures none { IfNone result ((n : ℕ) → ¬ (ReadsUnits text.now scale n)) }
 {
+    if let Some(number) = short_number(text) {
+        return Some(raised(number, scale));
+    }
     let whole = digits_at_front(0, text);
     let (_, tail) = text.split_at(whole.count);
     let fraction = fraction_in(tail)?;

@@ -14,6 +14,17 @@ pub fn zigzag(d: i128) -> u128
     }
 }
 
+/// The number of a difference of 64 bits, as `zigzag` gives it.
+pub fn zigzag_i64(d: i64) -> u64
+    ensures { result ≡ zigzag_of d }
+{
+    if d >= 0 {
+        d as u64 * 2
+    } else {
+        (-(d + 1)) as u64 * 2 + 1
+    }
+}
+
 /// The difference that has this number.
 pub fn unzigzag(z: u128) -> i128
     requires { z < 2 ^ 65 }

@@ -8,7 +8,7 @@ mod head;
 mod tests;
 mod uvar;
 
-pub use difference::{one_difference, unzigzag, zigzag};
+pub use difference::{one_difference, unzigzag, zigzag, zigzag_i64};
 pub use fields::{
     get_i64, get_i128, get_u8, get_u16, get_u32, get_u64, put_i64, put_i128, put_u8, put_u16,
     put_u32, put_u64,

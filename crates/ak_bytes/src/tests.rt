@@ -1,6 +1,6 @@
 use crate::{
     Head, get_head, get_i64, get_i128, get_u32, get_uvar, put_head, put_i64, put_i128, put_u32,
-    put_uvar, unzigzag, uvar_length, zigzag,
+    put_uvar, unzigzag, uvar_length, zigzag, zigzag_i64,
 };
 use ak_base::{Addr, Block};
 
@@ -45,6 +45,10 @@ fn differences_go_both_ways(rt: HostRuntime) {
     assert_eq!(rt; zigzag(-1), 1);
     assert_eq!(rt; zigzag(5), 10);
     assert_eq!(rt; zigzag(-0xffff_ffff_ffff_ffff), 0x1_ffff_ffff_ffff_fffd);
+    assert_eq!(rt; zigzag_i64(-1), 1);
+    assert_eq!(rt; zigzag_i64(5), 10);
+    assert_eq!(rt; zigzag_i64(i64::MAX), u64::MAX - 1);
+    assert_eq!(rt; zigzag_i64(i64::MIN), u64::MAX);
     assert_eq!(rt; unzigzag(0x1_ffff_ffff_ffff_ffff), -0x1_0000_0000_0000_0000);
 }
 

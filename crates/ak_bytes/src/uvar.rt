@@ -13,8 +13,12 @@ pub fn uvar_length(v: u128) -> u32
     ensures some { 1 ≤ result }
     ensures longest { result ≤ 10 }
 {
-    let mut rest = v;
-    let mut length = 1;
+    if v < 128 {
+        return 1;
+    }
+    // Behind the first byte the number is below 2^63.
+    let mut rest = (v / 128) as u64;
+    let mut length = 2;
     while rest >= 128 {
         rest /= 128;
         length += 1;
@@ -30,8 +34,16 @@ pub fn put_uvar(buf: &mut [u8], at: usize, v: u128) -> Option<usize>
     ensures some { IfSome result (λ end. (end ≡ at + length (uvar v)) × (end ≤ length buf.old) × IsPut buf.old buf.new at end (uvar v)) }
     ensures none { IfNone result ((length buf.old < at + length (uvar v)) × (take at buf.new ≡ take at buf.old)) }
 {
-    let mut rest = v;
-    let mut end = at;
+    if at == buf.len() {
+        return None;
+    }
+    if v < 128 {
+        buf[at] = v as u8;
+        return Some(at + 1);
+    }
+    buf[at] = (v % 128) as u8 + 128;
+    let mut rest = (v / 128) as u64;
+    let mut end = at + 1;
     while rest >= 128 {
         if end == buf.len() {
             return None;

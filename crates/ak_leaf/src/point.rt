@@ -7,7 +7,7 @@ ghost use Rattle.ak_bytes.specs.Zigzag.{zigzag_of};
 ghost use Rattle.ak_leaf.specs.Spelling.{IsBefore, after, point_spelling};
 
 use ak_base::Point;
-use ak_bytes::{get_uvar, put_uvar, unzigzag, uvar_length, zigzag};
+use ak_bytes::{get_uvar, put_uvar, unzigzag, uvar_length, zigzag, zigzag_i64};
 
 /// What a point is spelled against.
 #[derive(Clone, Copy, Drop)]
@@ -31,6 +31,17 @@ impl Before {
     }
 }
 
+// The number of the difference between two values. It has 65 bits only where the difference has.
+fn value_number(before: i64, value: i64) -> u128
+    ensures number { result ≡ zigzag_of (value -ℤ before) }
+    ensures small { result < 2 ^ 65 }
+{
+    match value.checked_sub(before) {
+        Some(difference) => u128::from(zigzag_i64(difference)),
+        None => zigzag(i128::from(value) - i128::from(before)),
+    }
+}
+
 /// The two numbers that a point is spelled by.
 pub fn numbers(before: Before, p: Point) -> (u128, u128)
     requires { before.ts ≤ p.ts }
@@ -40,8 +51,10 @@ pub fn numbers(before: Before, p: Point) -> (u128, u128)
     ensures small { result.1 < 2 ^ 65 }
     ensures point { IsPoint p }
 {
-    let difference = i128::from(p.value) - i128::from(before.value);
-    (u128::from(p.ts - before.ts), zigzag(difference))
+    (
+        u128::from(p.ts - before.ts),
+        value_number(before.value, p.value),
+    )
 }
 
 /// The point that two numbers spell. None where its timestamp or its value is out of range.

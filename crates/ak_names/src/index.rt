@@ -1,7 +1,10 @@
 //! Names by number and numbers by name.
 ghost use Rattle.std.specs.Prelude.{◌≡◌, ◌++◌, ◌∷◌, ◌<◌, ◌^◌, ◌-◌, [], length, position, bytes_eq, IfOk, IsOk, IfSome, OnOk, OnErr, false};
 ghost use Rattle.std.specs.List.{list_any};
+ghost use Rattle.ak_names.specs.Known.{AreNumbers, names_at};
+ghost use Rattle.ak_names.specs.Names.{DoesName};
 
+use crate::memo::Memo;
 use ak_base::Text;
 use indexmap::IndexSet;
 use std::alloc::{AllocError, Global};
@@ -12,16 +15,19 @@ use std::str::from_utf8;
 #[derive(Drop)]
 pub struct Index {
     names: IndexSet<String>,
+    memo: Memo,
 }
 
 impl Model for Index {
     ghost use Rattle.std.specs.Prelude.{List, ℕ, ◌<◌, ◌^◌, length, map, string_bytes};
+    ghost use Rattle.std.specs.List.{AllByRecursion};
+    ghost use Rattle.ak_names.specs.Known.{NamesThese};
 
     ghost Value = { List (List ℕ) };
 
     ghost view = { λ i. map string_bytes i.names.keys };
 
-    ghost invariant = { λ i. length (map string_bytes i.names.keys) < 2 ^ 32 };
+    ghost invariant = { λ i. (length (map string_bytes i.names.keys) < 2 ^ 32) × AllByRecursion (NamesThese (map string_bytes i.names.keys)) i.memo };
 }
 
 impl Index {
@@ -32,6 +38,7 @@ impl Index {
     {
         Ok(Index {
             names: IndexSet::new(alloc),
+            memo: Memo::new(alloc),
         })
     }
 
@@ -64,6 +71,25 @@ impl Index {
         ensures small { length self.now < 2 ^ 32 }
     {
         self.names.get_index_of(name)
+    }
+
+    /// The numbers of the names that a text names, in order, where it was kept with them. None says nothing of the text.
+    pub fn known(&self, text: &[u8]) -> Option<&[u32]>
+        ensures known { IfSome result (λ numbers. AreNumbers self.now numbers.now) }
+        ensures names { IfSome result (λ numbers. DoesName text.now (names_at self.now numbers.now)) }
+    {
+        self.memo.find(text)
+    }
+
+    /// Keeps a text with the numbers of the names that it names, in order, so that `known` may find them. It has no answer, as
+    /// it may do nothing: where the text is kept already, where there is no memory, or where as much is kept as may be, which
+    /// is 65,536 texts, 4 MiB of texts in all and 262,144 numbers in all.
+    pub fn keep(&mut self, alloc: Global, text: &[u8], numbers: &[u32])
+        requires known { AreNumbers self.old numbers.now }
+        requires names { DoesName text.now (names_at self.old numbers.now) }
+        ensures { self.new ≡ self.old }
+    {
+        let _ = self.memo.keep(alloc, text, numbers);
     }
 
     /// Adds a name that is new, and gives its number, which is how many names there were. After an `Err` the index is

@@ -5,14 +5,17 @@ mod count;
 mod error;
 mod index;
 mod laws;
+mod memo;
 mod parts;
 mod read;
 mod tags;
 #[cfg(test)]
 mod tests;
+mod wheres;
 
 pub use count::metrics;
 pub use error::NameError;
 pub use index::Index;
 pub use laws::{every_reading, one_reading};
 pub use read::read_names;
+pub use wheres::{KeyValues, Wheres};

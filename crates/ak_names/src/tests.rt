@@ -1,4 +1,5 @@
 use super::*;
+use crate::memo::Memo;
 use ak_base::Text;
 use std::alloc::{AllocError, Global};
 
@@ -119,5 +120,60 @@ fn numbers(rt: HostRuntime) -> Result<(), AllocError> {
     // a text that names the second, but isn't its name, and one that is no text
     assert!(rt; index.id_of(b"cpu  host=b") == None);
     assert!(rt; index.id_of(b"cpu host=b\xff") == None);
+    Ok(())
+}
+
+#[test]
+fn texts_are_kept(rt: HostRuntime) -> Result<(), AllocError> {
+    let alloc = rt.alloc();
+    let mut memo = Memo::new(alloc);
+    assert!(rt; memo.find(b"cpu|mem host=a").is_none());
+    memo.keep(alloc, b"cpu|mem host=a", [7, 3].as_slice())?;
+    memo.keep(alloc, b"cpu|mem  host=a", [3].as_slice())?;
+    assert!(rt; memo.find(b"cpu|mem host=a") == Some([7, 3].as_slice()));
+    assert!(rt; memo.find(b"cpu|mem  host=a") == Some([3].as_slice()));
+    assert!(rt; memo.find(b"cpu|mem host=a ").is_none());
+    // a text that is kept stays as it is, and one that is no UTF-8 isn't kept
+    memo.keep(alloc, b"cpu|mem host=a", [1].as_slice())?;
+    assert!(rt; memo.find(b"cpu|mem host=a") == Some([7, 3].as_slice()));
+    memo.keep(alloc, b"cpu\xff", [1].as_slice())?;
+    assert!(rt; memo.find(b"cpu\xff").is_none());
+    Ok(())
+}
+
+#[test]
+fn few_texts_are_kept(rt: HostRuntime) -> Result<(), AllocError> {
+    let alloc = rt.alloc();
+    let mut memo = Memo::new(alloc);
+    for number in 0..65_536 {
+        let text = format!(in alloc; "m{number}")?;
+        memo.keep(alloc, text.as_bytes(), [number].as_slice())?;
+    }
+    memo.keep(alloc, b"m65536", [0].as_slice())?;
+    assert!(rt; memo.find(b"m65535") == Some([65_535].as_slice()));
+    assert!(rt; memo.find(b"m65536").is_none());
+    Ok(())
+}
+
+#[test]
+fn few_bytes_and_numbers_are_kept(rt: HostRuntime) -> Result<(), AllocError> {
+    let alloc = rt.alloc();
+    let mut memo = Memo::new(alloc);
+    let long = vec![in alloc; b'm'; 4_194_305]?;
+    memo.keep(alloc, long.as_slice(), [0].as_slice())?;
+    assert!(rt; memo.find(long.as_slice()).is_none());
+    memo.keep(alloc, &long.as_slice()[1..], [0].as_slice())?;
+    assert!(rt; memo.find(&long.as_slice()[1..]).is_some());
+    memo.keep(alloc, b"m", [0].as_slice())?;
+    assert!(rt; memo.find(b"m").is_none());
+    let mut other = Memo::new(alloc);
+    let numbers = vec![in alloc; 5; 262_144]?;
+    other.keep(alloc, b"a", [5].as_slice())?;
+    other.keep(alloc, b"b", numbers.as_slice())?;
+    assert!(rt; other.find(b"b").is_none());
+    other.keep(alloc, b"c", &numbers.as_slice()[1..])?;
+    assert!(rt; other.find(b"c").is_some());
+    other.keep(alloc, b"d", [5].as_slice())?;
+    assert!(rt; other.find(b"d").is_none());
     Ok(())
 }

@@ -10,3 +10,5 @@ pub mod Sound
 pub mod Whole
 pub mod Texts
 pub mod Taken
+pub mod Numbers
+pub mod Parts

@@ -68,7 +68,7 @@ begin_sound p c rest b s =
 
 -- ---- Lines
 
-all_snoc : {X : Type 0} (P : X → Type 0) (xs : List X) (x : X) → AllByRecursion P xs → P x → AllByRecursion P (xs ++ x ∷ [])
+pub all_snoc : {X : Type 0} (P : X → Type 0) (xs : List X) (x : X) → AllByRecursion P xs → P x → AllByRecursion P (xs ++ x ∷ [])
 all_snoc P [] x h k = (k, tt)
 all_snoc P (y ∷ ys) x h k = (h.0, all_snoc P ys x h.1 k)
 
@@ -96,7 +96,7 @@ simple_sound p c rest b s =
       ap (λ xs. xs ++ b ∷ []) h.1,
     )))))
 
-digit_from : (b : ℕ) → is_digit b ≡ true → IsDigit b
+pub digit_from : (b : ℕ) → is_digit b ≡ true → IsDigit b
 digit_from b e = record { least = grind (arith, nat_tests); most = grind (arith, nat_tests) }
 
 or_either : (a b : Bool) → (a || b) ≡ true → (a ≡ true) ⊎ (b ≡ true)
@@ -146,7 +146,7 @@ chosen : {A : Type 0} (P : A → Type 0) (t : Bool) (x y : A) → (t ≡ true �
 chosen P true x y h k = h refl
 chosen P false x y h k = k refl
 
-number_snoc : (n : ℕ) (ds : List ℕ) (b : ℕ) → number_from n (ds ++ b ∷ []) ≡ number_from n ds * 10 + (b - 48)
+pub number_snoc : (n : ℕ) (ds : List ℕ) (b : ℕ) → number_from n (ds ++ b ∷ []) ≡ number_from n ds * 10 + (b - 48)
 number_snoc n [] b = refl
 number_snoc n (d ∷ ds) b = number_snoc (n * 10 + (d - 48)) ds b
 

@@ -1,5 +1,5 @@
 -- A put that stands whole is read at once.
-use Rattle.std.proofs.Common.{ℕ, ◌≡◌, ◌+◌, ◌≤◌, ◌++◌, List, [], ◌∷◌, min, length, take, drop, Ok, Some, sym, ◌∙◌, ap, subst, arith, refl, take-append-drop, length-take-le}
+use Rattle.std.proofs.Common.{ℕ, ◌≡◌, ◌+◌, ◌≤◌, ◌++◌, List, [], ◌∷◌, min, length, take, drop, Ok, Option, Some, None, sym, ◌∙◌, ap, subst, arith, refl, take-append-drop, length-take-le}
 use Rattle.std.proofs.lemmas.List.{drop-drop, length-drop}
 use Rattle.ak_resp.specs.declared.message.Message.{Message}
 use Rattle.ak_resp.specs.declared.spot.Spot.{Spot}
@@ -10,11 +10,16 @@ use Rattle.ak_resp.specs.declared.spot.Within.TheVariants.{Start, Simple, Intege
 use Rattle.ak_resp.specs.Grammar.{Spells}
 use Rattle.ak_resp.specs.Machine.{first}
 use Rattle.ak_resp.specs.Rows.{Reads}
-use Rattle.ak_resp.specs.Standing.{StandsFor, IsBegun, IsInside, last_place}
+use Rattle.ak_resp.specs.Standing.{StandsFor, IsBegun, IsInside, is_refused, passed, last_place}
 use Rattle.ak_resp.proofs.Complete.{message_goes}
 use Rattle.ak_resp.proofs.Goes.{Goes}
 use Rattle.ak_resp.proofs.Readers.{stands_after}
-use Rattle.ak_resp.proofs.Runs.{spot, at}
+use Rattle.ak_resp.proofs.Runs.{spot, at, reader}
+use Rattle.std.specs.Option.{IfSome}
+use Rattle.ak_base.specs.declared.refusal.Refusal.{Refusal}
+use Rattle.ak_resp.specs.declared.resp.Resp.{Resp}
+use Rattle.ak_resp.specs.declared.puts.WholePut.{WholePut}
+use Rattle.ak_resp.specs.Puts.{IsPutOf}
 
 is_first_in : (p : Progress) (w : Within) (c begun : List ℕ) → ¬ (IsInside (spot p w c)) → IsBegun p w c begun → spot p w c ≡ first
 is_first_in Name Start c begun h b = ap (spot Name Start) b.0
@@ -51,3 +56,18 @@ stands_whole s n k i m piece fits h within spelled row ms stands =
     let reads : Reads (at s n) (at s (min (n + k) last_place)) (drop i piece) (drop (i + k) piece) (m ∷ []) =
     subst (λ (t : Spot). Reads (at t n) (at t (min (n + k) last_place)) (drop i piece) (drop (i + k) piece) (m ∷ [])) (sym is) (reads_first n k i m piece fits within spelled) in
     stands_after (at s n) (at s (min (n + k) last_place)) piece i (i + k) (Ok (Some m)) (omega arith) within refl (reads, refl) row ms stands
+
+pub put_stands : (r : Resp) (i : ℕ) (piece : List ℕ) (put : Option WholePut) → i ≤ length piece → r.refusal ≡ None → ¬ (IsInside r.spot) →
+    IfSome put (λ p. p.length ≤ length (drop i piece)) → IfSome put (λ p. (m : Message) × IsPutOf p m × Spells (take p.length (drop i piece)) m) →
+    IfSome put (λ p. (m : Message) × IsPutOf p m × ((row : List ℕ) (ms : List Message) → StandsFor r (row ++ take i piece) ms →
+    StandsFor (passed r p.length) (row ++ take (i + p.length) piece) (ms ++ m ∷ [])))
+put_stands r i piece None within none outside inside spelled = tt
+put_stands r i piece (Some p) within none outside inside (m, is, spelled) = (
+  m,
+  is,
+  λ row ms given.
+      let place : r.place ≡ min (length (row ++ take i piece)) last_place = (given.sound (ap is_refused none)).2 in
+      let stands = stands_whole r.spot r.place p.length i m piece (omega (arith, place)) outside (omega (arith, inside, length-drop i piece, within)) spelled in
+      subst (λ (f : Option Refusal). StandsFor (reader r.spot (min (r.place + p.length) last_place) f) (row ++ take (i + p.length) piece) (ms ++ m ∷ [])) (sym none)
+      (stands row ms (subst (λ (f : Option Refusal). StandsFor (reader r.spot r.place f) (row ++ take i piece) ms) none given)),
+)

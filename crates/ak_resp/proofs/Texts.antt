@@ -1,14 +1,16 @@
 -- Integers as they stand in a piece.
-use Rattle.std.proofs.Common.{ℕ, ◌≡◌, ◌+◌, ◌<◌, ◌≤◌, ◌++◌, ◌∙◌, List, [], ◌∷◌, zero, suc, length, take, drop, get_or, All, inl, inr, arith, sym, subst, ap, refl, append_assoc, append-nil, false, take-add}
+use Rattle.std.proofs.Common.{ℕ, ◌≡◌, ◌+◌, ◌<◌, ◌≤◌, ◌++◌, ◌∙◌, List, [], ◌∷◌, zero, suc, length, take, drop, get_or, All, inl, inr, arith, sym, subst, ap, refl, append_assoc, append-nil, false, take-add, length-take-le, map}
 use Rattle.std.proofs.lemmas.Bool.Decides.{nat_tests}
-use Rattle.ak_resp.specs.declared.message.PartKind.{PartKind}
 use Rattle.ak_resp.specs.declared.message.PartKind.TheVariants as kind
 use Rattle.ak_resp.specs.declared.message.Message.TheVariants as message
 use Rattle.ak_resp.specs.Machine.{is_control}
-use Rattle.std.proofs.lemmas.List.{length-take}
-use Rattle.std.proofs.lemmas.List.Elements.{recursion_from_All}
-use Rattle.ak_resp.specs.Grammar.{crlf, one, IsDigit, IsLine, SpellsPart, BeginsControl, Spells}
-use Rattle.ak_resp.specs.Puts.{IsIntegerText, IsSign, IsEnd, part_as}
+use Rattle.std.proofs.lemmas.List.{length-take, length-append, get_or_append_left, get_or-take, get_or_at, drop_at, drop-drop}
+use Rattle.std.proofs.lemmas.List.Elements.{recursion_from_All, All-from_recursion}
+use Rattle.ak_resp.specs.Grammar.{crlf, one, array, IsDigit, IsLine, IsLineByte, IsNumber, IsName, SpellsPart, BeginsControl, Spells}
+use Rattle.ak_resp.specs.declared.message.Part.{Part}
+use Rattle.ak_resp.proofs.Numbers.{count_number}
+use Rattle.ak_resp.proofs.Parts.{digits_line}
+use Rattle.ak_resp.specs.Puts.{AreParts, IsCount, IsIntegerText, IsSign, IsEnd, SpellsValues, part_as}
 
 pub digits_text : (xs : List ℕ) (n : ℕ) → 0 < n → n < 4096 → n ≤ length xs → All IsDigit (take n xs) → IsIntegerText (take n xs)
 digits_text [] n some most within all = absurd (omega (arith, some, within))
@@ -64,17 +66,85 @@ no_control : (text : List ℕ) → is_control text ≡ false → ¬ (BeginsContr
 no_control [] is = λ b. b
 no_control (x ∷ xs) is = λ b. grind (arith, nat_tests, is, b)
 
--- three parts are a put
-pub put_spelled : (xs : List ℕ) (a b c : ℕ) (k : PartKind) (name time value : List ℕ) → is_control name ≡ false →
-    SpellsPart (take a xs) (one (part_as kind.Simple name)) → SpellsPart (take b (drop a xs)) (one (part_as kind.Integer time)) →
-    SpellsPart (take c (drop (a + b) xs)) (one (part_as k value)) →
-    Spells (take (a + b + c) xs) (message.Put (part_as kind.Simple name) (part_as kind.Integer time) (part_as k value ∷ []))
-put_spelled xs a b c k name time value control first second third =
+-- a name, a time and values are a put
+pub put_spelled : (xs : List ℕ) (a b c : ℕ) (name time : Part) (parts : List Part) → IsName name → SpellsPart (take a xs) (one name) →
+    SpellsPart (take b (drop a xs)) (one time) → SpellsValues (take c (drop (a + b) xs)) parts → Spells (take (a + b + c) xs) (message.Put name time parts)
+put_spelled xs a b c name time parts is first second (inl (value, one_value, third)) =
     let x = take a xs in
     let y = take b (drop a xs) in
     let z = take c (drop (a + b) xs) in
     let whole : take (a + b + c) xs ≡ x ++ (y ++ z) = take-add (a + b) c xs ∙ ap (λ l. l ++ z) (take-add a b xs) ∙ append_assoc x y z in (
-      one (part_as kind.Simple name) ∷ one (part_as kind.Integer time) ∷ one (part_as k value) ∷ [],
-      ((tt, no_control name control), inl (part_as k value, refl, refl)),
+      one name ∷ one time ∷ one value ∷ [],
+      (is, inl (value, one_value, refl)),
       (x, y ++ z, whole, first, (y, z, refl, second, (z, [], sym (append-nil z), third, refl))),
     )
+put_spelled xs a b c name time parts is first second (inr (few, items, third)) =
+    let x = take a xs in
+    let y = take b (drop a xs) in
+    let z = take c (drop (a + b) xs) in
+    let whole : take (a + b + c) xs ≡ x ++ (y ++ z) = take-add (a + b) c xs ∙ ap (λ l. l ++ z) (take-add a b xs) ∙ append_assoc x y z in (
+      one name ∷ one time ∷ array (length parts) ∷ map one parts,
+      (is, inr (few, items, refl)),
+      (x, y ++ z, whole, first, (y, z, refl, second, third)),
+    )
+
+-- a bulk: `$`, its length, and so many bytes
+pub bulk_part : (xs : List ℕ) (d v : ℕ) → 0 < length xs → get_or xs 0 0 ≡ 36 → 0 < d → IsCount (drop 1 xs) d v → IsEnd (drop 1 xs) d → v ≤ 65536 → IsEnd (drop (d + 3) xs) v →
+    SpellsPart (take (d + v + 5) xs) (one (part_as kind.Bulk (take v (drop (d + 3) xs))))
+bulk_part xs d v some is digits count head fits content =
+    let rest = drop (d + 3) xs in
+    let text = take v rest in
+    let long : length text ≡ v = length-take-le v rest (omega (arith, content.within)) in
+    let sum : d + 3 + (v + 2) ≡ d + v + 5 = omega arith in
+    let number : IsNumber (take d (drop 1 xs)) (length text) = subst (λ (n : ℕ). IsNumber (take d (drop 1 xs)) n) (sym long) (count_number (drop 1 xs) d v digits count) in
+    let bytes : take (d + 3 + (v + 2)) xs ≡ 36 ∷ take d (drop 1 xs) ++ crlf ++ text ++ crlf =
+    take-add (d + 3) (v + 2) xs ∙ ap (λ l. l ++ take (v + 2) rest) (part_bytes xs 36 d some is head) ∙ ap (λ l. (36 ∷ take d (drop 1 xs) ++ crlf) ++ l) (ended rest v content)
+    ∙ sym (append_assoc (36 ∷ take d (drop 1 xs) ++ crlf) text crlf) in
+    (take d (drop 1 xs), number, omega (arith, long, fits), subst (λ (k : ℕ). take k xs ≡ 36 ∷ take d (drop 1 xs) ++ crlf ++ text ++ crlf) sum bytes)
+
+-- an array: `*`, how many items, and the items
+pub array_values : (xs : List ℕ) (d v l : ℕ) (parts : List Part) → 0 < length xs → get_or xs 0 0 ≡ 42 → 0 < d → IsCount (drop 1 xs) d v → IsEnd (drop 1 xs) d → v ≤ 64 →
+    AreParts v (take l (drop (d + 3) xs)) parts → SpellsValues (take (d + 3 + l) xs) parts
+array_values xs d v l parts some is digits count head fits are =
+    let number : IsNumber (take d (drop 1 xs)) (length parts) = subst (λ (n : ℕ). IsNumber (take d (drop 1 xs)) n) (sym are.number) (count_number (drop 1 xs) d v digits count) in
+    let few : length parts ≤ 64 = omega (arith, are.number, fits) in
+    inr (few, are.items, (take (d + 3) xs, take l (drop (d + 3) xs), take-add (d + 3) l xs, (take d (drop 1 xs), number, few, part_bytes xs 42 d some is head), are.are))
+
+split_length : (xs line back : List ℕ) → xs ≡ line ++ (crlf ++ back) → length xs ≡ length line + 2 + length back
+split_length xs line back split =
+    let both : length (line ++ (crlf ++ back)) ≡ length line + length (crlf ++ back) = length-append line (crlf ++ back) in
+    let behind : length (crlf ++ back) ≡ 2 + length back = length-append crlf back in
+    omega (arith, ap length split, both, behind)
+
+-- where the line ends that the bytes begin with
+pub line_stops : (xs line back : List ℕ) (n : ℕ) → n ≤ length xs → n ≤ 4096 → All IsLineByte (take n xs) → (n < length xs → n < 4096 → ¬ (IsLineByte (get_or xs n 0))) →
+    IsLine line → xs ≡ line ++ (crlf ++ back) → n ≡ length line
+line_stops xs line back n within most content stops is split =
+    let long = split_length xs line back split in
+    let low : ¬ (n < length line) = λ less.
+    let here : get_or xs n 0 ≡ get_or line n 0 = ap (λ l. get_or l n 0) split ∙ get_or_append_left line (crlf ++ back) 0 n less in
+    let line_byte : IsLineByte (get_or line n 0) = All-from_recursion IsLineByte line is.each n 0 less in
+    stops (omega (arith, long, less)) (omega (arith, is.short, less)) (subst IsLineByte (sym here) line_byte) in
+    let high : ¬ (length line < n) = λ more.
+    let here : get_or (take n xs) (length line) 0 ≡ 13 = get_or-take n xs (length line) 0 more ∙ ap (λ l. get_or l (length line) 0) split ∙ get_or_at line 13 (10 ∷ back) 0 (length line) refl in
+    let all : length line < length (take n xs) = omega (arith, more, length-take-le n xs within) in
+    (content (length line) 0 all).not_cr here in
+    omega (arith, low, high)
+
+pub line_is_end : (xs line back : List ℕ) → xs ≡ line ++ (crlf ++ back) → IsEnd xs (length line)
+line_is_end xs line back split =
+    let first : drop (length line) xs ≡ crlf ++ back = ap (drop (length line)) split ∙ drop_at line (crlf ++ back) (length line) refl in
+    let second : drop (length line + 2) xs ≡ back = sym (drop-drop 2 (length line) xs) ∙ ap (drop 2) first in record {
+      within = omega (arith, split_length xs line back split);
+      is = first ∙ ap (λ l. crlf ++ l) (sym second);
+    }
+
+-- digits that stand in a line are an integer, and a line
+pub count_text : (xs : List ℕ) (n v : ℕ) → 0 < n → IsCount xs n v → IsIntegerText (take n xs)
+count_text xs n v some c = digits_text xs n some (omega (arith, c.most)) c.within (All-from_recursion IsDigit (take n xs) c.each)
+
+pub count_line : (xs : List ℕ) (n v : ℕ) → IsCount xs n v → IsLine (take n xs)
+count_line xs n v c = record {
+  short = omega (arith, length-take-le n xs c.within, c.most);
+  each = digits_line (take n xs) c.each;
+}

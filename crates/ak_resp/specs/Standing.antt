@@ -77,6 +77,10 @@ IsInside s = IsInsideAt s.progress s.within
 abbrev pub last_place : ℕ
 last_place = 18446744073709551615
 
+-- the reader that has passed so many bytes more
+abbrev pub passed : Resp → ℕ → Resp
+passed r n = record r { place = min (r.place + n) last_place }
+
 -- The stream has its fault at this place, and is refused so: the bytes before it are messages and a rest, and the refusal
 -- tells the kind of the byte there, at the spot where the rest leads, and the place.
 pub record HasRefusal (stream : List ℕ) (place : ℕ) (f : Refusal) : Type 0 where

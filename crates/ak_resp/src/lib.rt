@@ -8,7 +8,7 @@ mod resp;
 mod spot;
 
 pub use message::{Message, Part, PartKind, Parts, RespError};
-pub use puts::WholePut;
+pub use puts::{Lent, LentParts, LentValues, WholePut};
 pub use resp::{Resp, every_reading, fault_stays, one_reading, one_spelling};
 
 #[cfg(test)]

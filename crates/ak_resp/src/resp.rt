@@ -1,8 +1,8 @@
 //! The reader.
 ghost use Rattle.std.specs.Prelude.{◌≡◌, ◌≢◌, ◌+◌, ◌++◌, ◌∷◌, ◌≤◌, ◌<◌, ◌↔◌, [], List, ℕ, true, false, length, take, drop, IsTrue, IfOk, OnOk, Some, None, Err, IfSome, IfNone};
-ghost use Rattle.ak_resp.specs.Puts.{put_of};
+ghost use Rattle.ak_resp.specs.Puts.{IsPutOf, IsTimed};
 ghost use Rattle.ak_resp.specs.Grammar.{Spells, Splits, HasFaultAt};
-ghost use Rattle.ak_resp.specs.Standing.{HasRefusal, StandsFor, StandsAfter, TellsFault, OnNone, OnMessage, OnFault, Starts, Continues, refusal_of, is_faulted};
+ghost use Rattle.ak_resp.specs.Standing.{HasRefusal, StandsFor, passed, StandsAfter, TellsFault, OnNone, OnMessage, OnFault, Starts, Continues, refusal_of, is_faulted};
 ghost use Rattle.ak_resp.specs.Machine.{extended, IsRun};
 ghost use Rattle.ak_resp.specs.Rows.{next_reader, said_by, after, said, FeedsOn, Answers};
 
@@ -145,26 +145,28 @@ impl Resp {
         }
     }
 
-    /// The put that stands whole in the piece from `at` on, where no message has begun and no fault was met. `at` moves past
-    /// it, and the reader stands for the stream with its message read. It takes no memory.
-    ///
-    /// None may come anywhere: it says nothing of the bytes. It changes nothing, and `feed` then reads them.
-    pub fn whole<'a>(&mut self, piece: &'a [u8], at: &mut usize) -> Option<WholePut<'a>>
-        requires { at.old ≤ length piece.now }
-        ensures within { at.new ≤ length piece.now }
-        ensures moves { IfSome result (λ put. at.old < at.new) }
-        ensures none { IfNone result ((self.new ≡ self.old) × (at.new ≡ at.old)) }
-        ensures sound { IfSome result (λ put. is_faulted self.new ≡ false) }
-        ensures stands { IfSome result (λ put. (row : List ℕ) (messages : List Message) → StandsFor self.old (row ++ take at.old piece.now) messages
-            → StandsFor self.new (row ++ take at.new piece.now) (messages ++ put_of put ∷ [])) }
+    /// The put that stands whole in the piece from `at` on, where no message has begun and no fault was met. It takes no memory, and
+    /// changes nothing: `pass` passes it, and `feed` reads it too. None may come anywhere: it says nothing of the bytes.
+    pub fn whole<'a>(&self, piece: &'a [u8], at: usize) -> Option<WholePut<'a>>
+        requires { at ≤ length piece.now }
+        ensures within { IfSome result (λ put. at + put.length ≤ length piece.now) }
+        ensures moves { IfSome result (λ put. 0 < put.length) }
+        ensures time { IfSome result IsTimed }
+        ensures sound { IfSome result (λ put. is_faulted self.now ≡ false) }
+        ensures stands { IfSome result (λ put. (m : Message) × IsPutOf put m × ((row : List ℕ) (messages : List Message) → StandsFor self.now (row ++ take at piece.now) messages
+            → StandsFor (passed self.now put.length) (row ++ take (at + put.length) piece.now) (messages ++ m ∷ []))) }
     {
         if self.refusal.is_some() || Spot::is_inside(&self.spot) {
             return None;
         }
-        let (put, length) = whole_put(&piece[*at..])?;
+        whole_put(&piece[at..])
+    }
+
+    /// Passes so many bytes, which a message spells that stands whole.
+    pub fn pass(&mut self, length: usize)
+        ensures { self.new ≡ passed self.old length }
+    {
         self.place = self.place.saturating_add(length as u64);
-        *at += length;
-        Some(put)
     }
 
     /// Whether a message has begun. Of a reader with a fault nothing is said.

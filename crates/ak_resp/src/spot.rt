@@ -1,5 +1,5 @@
 //! Where within a message a reader is.
-ghost use Rattle.std.specs.Prelude.{◌≡◌, ◌++◌, ◌∷◌, ◌<◌, ◌≤◌, [], length, take, All, OnOk, ◌↔◌, IsTrue, MatchResult, IfOk, ◌^◌};
+ghost use Rattle.std.specs.Prelude.{get_or, ◌≡◌, ◌++◌, ◌∷◌, ◌<◌, ◌≤◌, [], length, take, All, OnOk, ◌↔◌, IsTrue, MatchResult, IfOk, ◌^◌};
 ghost use Rattle.std.specs.List.{list_any};
 ghost use Rattle.ak_resp.specs.Machine.{opening, begin, simple, integer, bulk_head, array_head, bulk_head_end, content, array_head_end, part_end, finish, finish_name, step, extended, IsRun, is_control, head, first, Gives, Finishes, GivesName};
 ghost use Rattle.ak_resp.specs.Kinds.{allows, is_digit, goes_on};
@@ -9,6 +9,7 @@ ghost use Rattle.ak_resp.specs.Standing.{IsInside};
 use crate::fault::Fault;
 use crate::message::{Message, Part, PartKind, Parts};
 use ak_base::Bytes;
+use memchr::memchr2;
 use std::alloc::{AllocError, Global};
 use std::mem;
 
@@ -449,15 +450,10 @@ pub(crate) fn line_length(bytes: &[u8], most: usize) -> usize
     ensures within { result ≤ length bytes.now }
     ensures most { result ≤ most }
     ensures content { All IsLineByte (take result bytes.now) }
+    ensures stops { result < length bytes.now → result < most → ¬ (IsLineByte (get_or bytes.now result 0)) }
 {
     let front = &bytes[..bytes.len().min(most)];
-    match front
-        .iter()
-        .position(|byte| *byte == b'\r' || *byte == b'\n')
-    {
-        Some(length) => length,
-        None => front.len(),
-    }
+    memchr2(b'\r', b'\n', front).unwrap_or(front.len())
 }
 
 /// Whether a name is that of a control.

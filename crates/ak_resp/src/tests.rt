@@ -1,5 +1,5 @@
 //! Streams, whole and byte by byte.
-use crate::{Message, Part, PartKind, Resp, RespError};
+use crate::{Lent, LentValues, Message, Part, PartKind, Resp, RespError};
 use ak_base::{Bytes, Refusal};
 use std::alloc::{AllocError, Global};
 use std::test::Fail;
@@ -150,41 +150,144 @@ fn reads_parts(rt: HostRuntime) -> Result<(), Fail> {
     Ok(())
 }
 
-// How many bytes a put takes that stands whole at the front, and 0 where none is taken.
+// How many bytes spell the put that stands whole at the front, and 0 where none is taken.
 fn whole_length(alloc: Global, stream: &[u8]) -> Result<usize, AllocError> {
-    let mut reader = Resp::new(alloc)?;
-    let mut at = 0;
-    match reader.whole(stream, &mut at) {
-        Some(_) => Ok(at),
+    let reader = Resp::new(alloc)?;
+    match reader.whole(stream, 0) {
+        Some(put) => Ok(put.length),
         None => Ok(0),
     }
 }
 
+fn is_lent(part: &Lent, kind: PartKind, text: &[u8]) -> bool {
+    part.kind == kind && part.text == text
+}
+
+/// Puts of each shape, each of them whole.
+const PUTS: [&[u8]; 9] = [
+    b"+a\r\n:1\r\n:2\r\n",
+    b"+a b=c\r\n:12345678\r\n+2.5 x\r\n",
+    b"$1\r\na\r\n:1\r\n:-2\r\n",
+    b"+a\r\n+1\r\n:+2\r\n",
+    b"$007\r\na\r\nb=!c\r\n$3\r\n170\r\n$1\r\n2\r\n",
+    b"+\r\n:9999999999999999999\r\n+\r\n",
+    b"+a\r\n:1\r\n*0\r\n",
+    b"+a\r\n:1\r\n*1\r\n:2\r\n",
+    b"$1\r\na\r\n$1\r\n1\r\n*03\r\n:2\r\n+x\r\n:-3\r\n",
+];
+
 #[test]
-fn takes_whole_puts(rt: HostRuntime) -> Result<(), Fail> {
+fn takes_each_shape_whole(rt: HostRuntime) -> Result<(), Fail> {
     let alloc = rt.alloc();
-    let streams: [(&[u8], usize); 14] = [
-        (b"+a\r\n:1\r\n:2\r\n+b", 12),
-        (b"+a b=c\r\n:-1\r\n+2.5 x\r\n", 21),
-        (b"+\r\n:+1\r\n+\r\n", 11),
-        // other parts
-        (b"$1\r\na\r\n:1\r\n:2\r\n", 0),
-        (b"+a\r\n+1\r\n:2\r\n", 0),
-        (b"+a\r\n:1\r\n$1\r\n2\r\n", 0),
-        (b"+a\r\n:1\r\n*1\r\n:2\r\n", 0),
-        (b"+!a\r\n:1\r\n:2\r\n", 0),
-        // a put that goes on in the next piece
-        (b"", 0),
-        (b"+a\r\n:1\r\n:2\r", 0),
-        // faults
-        (b"+a\r\n:1x\r\n:2\r\n", 0),
-        (b"+a\r\n:1\r\n:\r\n", 0),
-        (b"+a\r\n:1\r\n+2\n", 0),
-        (b"+a\r:1\r\n:2\r\n", 0),
-    ];
-    for (stream, length) in streams {
-        assert_eq!(rt; whole_length(alloc, stream)?, length);
+    for put in PUTS {
+        for end in 0..put.len() {
+            assert_eq!(rt; whole_length(alloc, &put[..end])?, 0);
+        }
+        assert_eq!(rt; whole_length(alloc, put)?, put.len());
+        let mut more = Bytes::new(alloc);
+        more.extend(alloc, put)?;
+        more.extend(alloc, b"+b\r\n:1\r\n:2\r\n+c")?;
+        assert_eq!(rt; whole_length(alloc, more.as_slice())?, put.len());
     }
+    Ok(())
+}
+
+#[test]
+fn takes_no_other_put_whole(rt: HostRuntime) -> Result<(), Fail> {
+    let alloc = rt.alloc();
+    let streams: [&[u8]; 20] = [
+        // controls
+        b"+!a\r\n:1\r\n:2\r\n",
+        b"$2\r\n!a\r\n:1\r\n:2\r\n",
+        // times that are no 1 to 19 digits
+        b"+a\r\n:-1\r\n:2\r\n",
+        b"+a\r\n:+1\r\n:2\r\n",
+        b"+a\r\n+\r\n:2\r\n",
+        b"+a\r\n$0\r\n\r\n:2\r\n",
+        b"+a\r\n+1x\r\n:2\r\n",
+        b"+a\r\n$2\r\n1x\r\n:2\r\n",
+        b"+a\r\n:01234567890123456789\r\n:2\r\n",
+        b"+a\r\n+01234567890123456789\r\n:2\r\n",
+        b"+a\r\n$20\r\n01234567890123456789\r\n:2\r\n",
+        // faults
+        b"+a\r\n:1x\r\n:2\r\n",
+        b"+a\r\n:1\r\n:\r\n",
+        b"+a\r\n:1\r\n:-\r\n",
+        b"+a\r\n:1\r\n+2\n\n",
+        b"+a\r:1\r\n:2\r\n",
+        b"$2\r\nabc\r\n:1\r\n:2\r\n",
+        b"$\r\n\r\n:1\r\n:2\r\n",
+        b"+a\r\n:1\r\n$65537\r\n",
+        b"+a\r\n:1\r\n*1\r\n$1\r\n2\r\n",
+    ];
+    for stream in streams {
+        assert_eq!(rt; whole_length(alloc, stream)?, 0);
+    }
+    Ok(())
+}
+
+// An array of 64 values is taken, and none of 65.
+#[test]
+fn takes_the_longest_array_whole(rt: HostRuntime) -> Result<(), Fail> {
+    let alloc = rt.alloc();
+    let fronts: [(&[u8], usize); 2] = [(b"+a\r\n:1\r\n*64\r\n", 269), (b"+a\r\n:1\r\n*65\r\n", 0)];
+    for (front, length) in fronts {
+        let mut stream = Bytes::new(alloc);
+        stream.extend(alloc, front)?;
+        for _ in 0..65 {
+            stream.extend(alloc, b":1\r\n")?;
+        }
+        assert_eq!(rt; whole_length(alloc, stream.as_slice())?, length);
+    }
+    Ok(())
+}
+
+#[test]
+fn reads_the_digits_of_a_time(rt: HostRuntime) -> Result<(), Fail> {
+    let alloc = rt.alloc();
+    let times: [(&[u8], u64); 9] = [
+        (b"+a\r\n:7\r\n:2\r\n", 7),
+        (b"+a\r\n:0000000\r\n:2\r\n", 0),
+        (b"+a\r\n:12345678\r\n:2\r\n", 12_345_678),
+        (b"+a\r\n+123456789\r\n:2\r\n", 123_456_789),
+        (b"+a\r\n:1418224205123\r\n:2\r\n", 1_418_224_205_123),
+        (b"+a\r\n:1234567890123456\r\n:2\r\n", 1_234_567_890_123_456),
+        (
+            b"+a\r\n$17\r\n12345678901234567\r\n:2\r\n",
+            12_345_678_901_234_567,
+        ),
+        (b"+a\r\n:0000000012345678901\r\n:2\r\n", 12_345_678_901),
+        (
+            b"+a\r\n:9999999999999999999\r\n:2\r\n",
+            9_999_999_999_999_999_999,
+        ),
+    ];
+    let reader = Resp::new(alloc)?;
+    for (stream, ts) in times {
+        let put = reader.whole(stream, 0).ok_or("no put")?;
+        assert_eq!(rt; put.ts, ts);
+    }
+    Ok(())
+}
+
+#[test]
+fn splits_the_values_of_a_whole_put(rt: HostRuntime) -> Result<(), Fail> {
+    let alloc = rt.alloc();
+    let reader = Resp::new(alloc)?;
+    let piece = b"?$1\r\na\r\n+17\r\n*2\r\n:-2\r\n+\r\n?";
+    let put = reader.whole(piece, 1).ok_or("no put")?;
+    assert_eq!(rt; put.length, 24);
+    assert!(rt; is_lent(&put.name, PartKind::Bulk, b"a"));
+    assert!(rt; is_lent(&put.time, PartKind::Simple, b"17"));
+    let LentValues::Array(parts) = put.values else {
+        return Err("one value".into());
+    };
+    let (first, others) = parts.split().ok_or("no value")?;
+    assert!(rt; is_lent(&first, PartKind::Integer, b"-2"));
+    let (second, none) = others.split().ok_or("one value")?;
+    assert!(rt; is_lent(&second, PartKind::Simple, b""));
+    assert_eq!(rt; none.count, 0);
+    assert!(rt; none.split().is_none());
     Ok(())
 }
 
@@ -195,27 +298,31 @@ fn takes_whole_puts_in_a_stream(rt: HostRuntime) -> Result<(), Fail> {
     let piece = b"+!flush\r\n+cpu host=a\r\n:100\r\n+-1.5\r\n+b\r\n:1\r\n:2\r\n?+a\r\n:1\r\n:2\r\n";
     let mut reader = Resp::new(alloc)?;
     let mut at = 0;
-    assert!(rt; reader.whole(piece, &mut at).is_none());
-    assert_eq!(rt; at, 0);
+    assert!(rt; reader.whole(piece, 0).is_none());
     let flush = reader.feed(alloc, piece, &mut at)?.ok_or("no flush")?;
     assert_eq!(rt; shape(&flush), "flush");
-    let put = reader.whole(piece, &mut at).ok_or("no put")?;
-    assert_eq!(rt; at, 35);
-    assert_eq!(rt; put.name, b"cpu host=a".as_slice());
-    assert_eq!(rt; put.time, b"100".as_slice());
-    assert!(rt; put.kind == PartKind::Simple);
-    assert_eq!(rt; put.value, b"-1.5".as_slice());
+    assert_eq!(rt; at, 9);
+    let put = reader.whole(piece, 9).ok_or("no put")?;
+    assert_eq!(rt; put.length, 26);
+    assert!(rt; is_lent(&put.name, PartKind::Simple, b"cpu host=a"));
+    assert!(rt; is_lent(&put.time, PartKind::Integer, b"100"));
+    assert_eq!(rt; put.ts, 100);
+    let LentValues::One(value) = put.values else {
+        return Err("more values".into());
+    };
+    assert!(rt; is_lent(&value, PartKind::Simple, b"-1.5"));
+    reader.pass(26);
     // the front of a put begins a message
     let mut front = 0;
     assert!(rt; reader.feed(alloc, b"+b\r\n", &mut front)?.is_none());
-    assert!(rt; reader.whole(piece, &mut at).is_none());
+    assert!(rt; reader.whole(piece, 35).is_none());
     at = 39;
     let put = reader.feed(alloc, piece, &mut at)?.ok_or("no put")?;
     assert_eq!(rt; shape(&put), "put");
     let fault = Some(Refusal::BadKind { at: 47 });
     assert_eq!(rt; refusal_in(reader.feed(alloc, piece, &mut at))?, fault);
-    assert!(rt; reader.whole(piece, &mut at).is_none());
     assert_eq!(rt; at, 48);
+    assert!(rt; reader.whole(piece, 48).is_none());
     Ok(())
 }
 

@@ -1,6 +1,6 @@
-use Rattle.std.proofs.Common.{◌≢◌, ℕ, List, [], ◌++◌, length, take, drop, subst, length-take-le, arith}
+use Rattle.std.proofs.Common.{◌≢◌, ◌*◌, ◌^◌, ℕ, List, [], ◌++◌, length, take, drop, subst, length-take-le, arith}
 use Rattle.ak_base.specs.Values.{IsTail}
-use Rattle.ak_base.proofs.Decimals.{IsFront, no_tail, some_digits, not_empty, units_some, units_none}
+use Rattle.ak_base.proofs.Decimals.{IsFront, no_tail, some_digits, not_empty, units_some, units_none, plain_units}
 use Rattle.ak_base.proofs.value.read_units.Goals as goal
 use Rattle.ak_base.proofs.value.read_units.Goals.{else-whole-eq0-via-then-whole-eq0+else-is_empty, else-whole-eq0-via-else-whole-eq0}
 
@@ -33,3 +33,8 @@ returns-clause-none c =
     let front : IsFront text i = record { digits = c.digits_at_front-whole.ensures.digits; end = c.digits_at_front-whole.ensures.end } in
     let point : IsTail (drop i text) f = subst (λ t. IsTail t f) c.split_at.ensures.back c.in_ok-fraction.ensures.some in
     units_none text f i c.args.scale c.digits_at_front-whole.result.number c.with_fraction.result front point c.with_fraction.ensures
+
+pub returns-in-Some-clause-some : goal.returns-in-Some-clause-some
+returns-in-Some-clause-some c =
+    let found = c.in-Some.ensures.some in
+    (c.in-Some.number * 10 ^ c.args.scale, plain_units c.args.text.now c.args.scale c.in-Some.number found.0 found.1 found.2, c.raised.ensures)

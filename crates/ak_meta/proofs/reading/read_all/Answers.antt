@@ -1,7 +1,9 @@
-use Rattle.std.proofs.Common.{rules, ◌≡◌, ◌∙◌, ◌+◌, ◌≤◌, ◌<◌, ◌++◌, ◌∷◌, List, ℕ, [], take, drop, length, bytes_eq, true, false, ap, sym, subst, arith, append_assoc, append-nil, length-append, length-drop, take-append-drop}
+use Rattle.std.proofs.Common.{rules, ◌≡◌, ◌∙◌, ◌+◌, ◌≤◌, ◌<◌, ◌++◌, ◌∷◌, List, ℕ, [], take, drop, length, bytes_eq, true, false, ap, sym, subst, arith, append_assoc, append-nil, length-append, length-drop, take-append-drop, Result, Ok, Err, IfErr}
+use Rattle.std.specs.Result.{IsErrAnd}
 use Rattle.std.proofs.lemmas.List.{flat_map_more}
 use Rattle.std.specs.List.{flat_map, list_any, AllByRecursion, IsDistinct}
 use Rattle.ak_meta.specs.declared.meta.SeriesMeta.{SeriesMeta}
+use Rattle.ak_meta.specs.declared.error.MetaError.{MetaError}
 use Rattle.ak_meta.specs.declared.error.MetaError.TheVariants.{Bad}
 use Rattle.ak_meta.specs.Contents.{IsSeries, names_of, series_bytes}
 use Rattle.ak_meta.proofs.Apart.{next_fails, none_behind, twice_fails, names_push, none_apart, apart_push}
@@ -18,6 +20,11 @@ loop-init c = record {
   bytes = sym (append-nil (take c.args.start c.args.from.now)) ∙ ap (λ (l : List SeriesMeta). take c.args.start c.args.from.now ++ flat_map series_bytes l) (sym c.new-all.ensures.items);
 }
 
+-- what holds of the error of a result
+error_is : {T : Type 0} (P : MetaError → Type 0) (r : Result T MetaError) (e : MetaError) → IsErrAnd r (λ y. y ≡ e) → P e → IfErr r P
+error_is P (Ok v) e err p = absurd err
+error_is P (Err y) e same p = subst P (sym same) p
+
 pub returns-in_err-series-clause-bad : goal.returns-in_err-series-clause-bad
 returns-in_err-series-clause-bad c =
     let from = c.args.from.now in
@@ -28,7 +35,8 @@ returns-in_err-series-clause-bad c =
     let less : length done < length all = omega (arith, many, c.loop.invariant.count, c.loop-test.true) in
     next_fails done all (drop start from) (drop at from) c.loop.invariant.each each less (behind_front from (flat_map series_bytes done) start at c.requires c.loop.invariant.bytes) (all_behind from (flat_map series_bytes all) start c.requires e)
     (λ s rest is next. c.in_err-series.ensures.bad bad s rest is (sym (take-append-drop at from) ∙ ap (λ (l : List ℕ). take at from ++ l) next ∙ sym (append_assoc (take at from) (series_bytes s) rest))) in
-    search rules
+    error_is (λ error. error ≡ Bad → (all : List SeriesMeta) → AllByRecursion IsSeries all → IsDistinct bytes_eq (names_of all) → length all ≡ c.args.count
+    → from ≡ take start from ++ flat_map series_bytes all → ⊥) c.from_residual-in_err-series.result c.in_err-series.field-0.0 c.from_residual-in_err-series.ensures.1 none
 
 pub returns-then-has_name-clause-bad : goal.returns-then-has_name-clause-bad
 returns-then-has_name-clause-bad c bad all each apart many e =

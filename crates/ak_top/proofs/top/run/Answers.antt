@@ -108,3 +108,6 @@ returns-clause-finished g c told =
 pub returns-clause-all : goal.returns-clause-all
 returns-clause-all g c told =
     on_stop_weaker IsBudget c.serve.result (λ all. turns_from (ap (λ (m : Mark). m.turns) (same_mark (c.open.ensures.moments told))) all) (c.serve.ensures.all told)
+
+pub returns-clause-no_store : goal.returns-clause-no_store
+returns-clause-no_store g c told none = absurd (c.in_ok-node.ensures.no_store told none)

@@ -1,4 +1,4 @@
-use Rattle.std.proofs.Common.{◌∙◌, ℕ, List, rules, length, slice_index, refl, sym, ap, subst, arith, [], false}
+use Rattle.std.proofs.Common.{◌∙◌, ◌≡◌, ℕ, List, rules, length, slice_index, refl, sym, ap, subst, arith, [], false}
 use Rattle.std.proofs.lemmas.Result.{err_from_is_err_and}
 use Rattle.ak_gate.specs.Slots.{newest}
 use Rattle.ak_host.specs.Files.{Files, file_at}
@@ -7,8 +7,10 @@ use Rattle.ak_host.proofs.Passing.{disk_goes_on, disk_now, stays_stable}
 use Rattle.ak_image.specs.Images.{IsSound, StandsFor}
 use Rattle.ak_meta.specs.Contents.{Content}
 use Rattle.ak_node.specs.Opening.{IsNodeOpenStop}
+use Rattle.ak_node.specs.declared.keeper.Keeper.{Keeper}
 use Rattle.ak_node.proofs.Starting.{open_sound, opened_ready, node_serves, node_stands, found_view, found_laid, found_holds, there_of, file_long, found_is, one_found, node_found, sound_found, stop_repaired}
 use Rattle.ak_node.proofs.StillReady.{ready_still, holds_still}
+use Rattle.ak_record.specs.Stops.{IsNoStore}
 use Rattle.ak_repair.proofs.OnlyReading.{stop_from}
 use Rattle.ak_world.specs.Worlds.{world_of}
 use Rattle.ak_node.proofs.node.Node.open.Goals as goal
@@ -152,3 +154,16 @@ returns-in-Err-clause-few g c told number found is =
     (ap (λ (f : Files). newest o.gate.slot f) (sym first) ∙ e.newest told) in
     let series = ap (λ (m : Content). length m.series) (one_found o.gate.number number o.meta found (g.D.Outside.state c.args.disk.now).files here is) in
     omega (arith, c.repaired.ensures.few told, c.open_newest.ensures.reads told, c.sync_all.ensures.reads told, ap (λ (l : List ℕ). slice_index l 0) c.sync_all.ensures.sizes, series)
+
+pub returns-in-Ok-clause-no_store : goal.returns-in-Ok-clause-no_store
+returns-in-Ok-clause-no_store g c told none =
+    c.in_ok-opened.ensures.no_store told (subst IsNoStore (sym (c.sync_all.ensures.files told)) none)
+
+pub returns-in-Ok-clause-files : goal.returns-in-Ok-clause-files
+returns-in-Ok-clause-files g c told = c.repaired.ensures.reads.files told ∙ c.open_newest.ensures.files told ∙ c.sync_all.ensures.files told
+
+pub returns-in-Ok-clause-reads : goal.returns-in-Ok-clause-reads
+returns-in-Ok-clause-reads g c told =
+    let kept : c.over.result.keeper.forest.meta ≡ c.in_ok-opened.opened.meta = ap (λ (k : Keeper). k.forest.meta) c.over.ensures.keeper ∙ c.in-Ok.ensures.opened.meta_is in
+    omega (arith, c.repaired.ensures.few told, c.open_newest.ensures.reads told, c.sync_all.ensures.reads told, ap (λ (l : List ℕ). slice_index l 0) c.sync_all.ensures.sizes,
+    ap (λ (m : Content). length m.series) kept)
