@@ -3,3 +3,4 @@ pub mod Histories
 pub mod Numerals
 pub mod Decimals
 pub mod Readings
+pub mod RowTexts

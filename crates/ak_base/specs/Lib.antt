@@ -4,3 +4,4 @@ pub mod Stops
 pub mod Ranges
 pub mod Values
 pub mod Selections
+pub mod RowTexts

@@ -2,7 +2,8 @@
 use Rattle.std.specs.Prelude.{pos, ◌≡◌, ◌^◌, refl, [], ◌∷◌, codes, Some}
 use Rattle.std.specs.List.{flat_map}
 use Rattle.ak_run.specs.declared.asked.Asked.TheVariants.{Flush}
-use Rattle.ak_run.specs.Replies.{name_text, row_text, series_rows, ok_reply, reply_to}
+use Rattle.ak_base.specs.RowTexts.{name_text}
+use Rattle.ak_run.specs.Replies.{row_text, series_rows, ok_reply, reply_to}
 use Rattle.ak_run.specs.Sessions.{with_session, without, stream_at}
 use Rattle.ak_world.specs.Leaves.{Series}
 use Rattle.ak_world.specs.Views.{first_view}

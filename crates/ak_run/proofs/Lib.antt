@@ -3,7 +3,6 @@ pub mod Allowed
 pub mod Canonical
 pub mod Confirming
 pub mod Decisions
-pub mod Digits
 pub mod EveryAsking
 pub mod EveryValue
 pub mod Examples

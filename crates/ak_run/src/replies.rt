@@ -1,7 +1,8 @@
 //! The bytes that sessions are told.
 ghost use Rattle.std.specs.Prelude.{◌≡◌, ◌++◌, ◌^◌, ◌<◌, ◌≤◌, OnOk, ◌==◌, ◌||◌};
 ghost use Rattle.std.specs.List.{list_any};
-ghost use Rattle.ak_run.specs.Replies.{refusal_reply, bulk_reply, trimmed, fraction_text, size_text, value_text, doubled, name_text, row_text};
+ghost use Rattle.ak_base.specs.RowTexts.{trimmed, fraction_text, size_text, value_text, doubled, name_text};
+ghost use Rattle.ak_run.specs.Replies.{refusal_reply, bulk_reply, row_text};
 
 use ak_base::{Bytes, Point, Refusal};
 use itoa::Buffer;

@@ -1,5 +1,5 @@
 use Rattle.std.proofs.Common.{◌∙◌, arith}
-use Rattle.ak_run.proofs.Digits.{last_zero, last_other, none_left}
+use Rattle.ak_base.proofs.RowTexts.{last_zero, last_other, none_left}
 use Rattle.ak_run.proofs.replies.without_zeros.Goals.{then-loop-count-test+else-digits-count-eq48, else-loop-count-test}
 use Rattle.ak_run.proofs.replies.without_zeros.Goals as goal
 

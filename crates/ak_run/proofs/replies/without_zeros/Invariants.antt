@@ -1,5 +1,5 @@
 use Rattle.std.proofs.Common.{◌≡◌, ◌≤◌, length, take}
-use Rattle.ak_run.specs.Replies.{trimmed}
+use Rattle.ak_base.specs.RowTexts.{trimmed}
 use Rattle.ak_run.proofs.replies.without_zeros.Given as goal
 
 abbrev pub invariant-loop-count : goal.invariant-loop-count

@@ -1,5 +1,5 @@
 use Rattle.std.proofs.Common.{◌≡◌, ◌++◌, take}
-use Rattle.ak_run.specs.Replies.{doubled}
+use Rattle.ak_base.specs.RowTexts.{doubled}
 use Rattle.ak_run.proofs.replies.write_doubled.Given as goal
 
 abbrev pub invariant-loop-byte : goal.invariant-loop-byte

@@ -1,6 +1,6 @@
 use Rattle.std.proofs.Common.{◌≡◌, ap, arith, length, List, ℕ}
 use Rattle.std.specs.Fmt.{decimal}
-use Rattle.ak_run.proofs.Digits.{length_fits, fraction_written}
+use Rattle.ak_base.proofs.RowTexts.{length_fits, fraction_written}
 use Rattle.ak_run.proofs.replies.write_fraction.Goals as goal
 
 pub slice_bounds-zeros-count : goal.slice_bounds-zeros-count

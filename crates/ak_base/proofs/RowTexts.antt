@@ -8,7 +8,7 @@ use Rattle.std.proofs.lemmas.Fmt.{decimal_is_IsNumeral, length-decimal-le}
 use Rattle.std.proofs.lemmas.Bool.{cases_Bool}
 use Rattle.std.proofs.lemmas.List.{take_more, take-replicate}
 use Rattle.std.proofs.lemmas.Bool.Decides.{nat_tests}
-use Rattle.ak_run.specs.Replies.{trimmed, padded, fraction_text}
+use Rattle.ak_base.specs.RowTexts.{trimmed, padded, fraction_text}
 
 -- not a `0`
 abbrev pub is_other : ℕ → Bool
