@@ -3,9 +3,11 @@ use Rattle.std.proofs.Common.{◌≡◌, ◌+◌, ℕ, suc, Bool, false, nat_lt,
 use Rattle.std.specs.Cmp.Lexicographic.{bytes_decides}
 use Rattle.std.proofs.lemmas.Bool.Decides.{nat_tests}
 use Rattle.std.proofs.lemmas.Str.{IsUtf8-string_bytes}
+use Rattle.std.specs.Prelude.{if◌then◌else◌}
 use Rattle.std.specs.List.{prefix_len, list_any}
 use Rattle.std.proofs.lemmas.List.{map-append}
 use Rattle.indexmap.specs.IndexSet.{insert_key}
+use Rattle.ak_names.specs.Tracks.{once}
 
 prefix_len-map : {X Y : Type 0} (f : X → Y) (p : Y → Bool) (xs : List X) → prefix_len p (map f xs) ≡ prefix_len (λ x. p (f x)) xs
 prefix_len-map f p [] = refl
@@ -23,6 +25,9 @@ list_any-map : {X Y : Type 0} (f : X → Y) (p : Y → Bool) (xs : List X) → l
 list_any-map f p [] = refl
 list_any-map f p (x ∷ xs) = ap (λ b. p (f x) || b) (list_any-map f p xs)
 
+pub any_texts : (name : List ℕ) (ks : List (String Global)) → list_any (λ n. bytes_eq name n) (map string_bytes ks) ≡ list_any (λ k. bytes_eq name (string_bytes k)) ks
+any_texts name ks = list_any-map string_bytes (λ n. bytes_eq name n) ks
+
 -- a name that no key has goes last
 pub added_last : (k : String Global) (ks : List (String Global)) (name : List ℕ) → string_bytes k ≡ name
     → list_any (λ n. bytes_eq name n) (map string_bytes ks) ≡ false
@@ -31,6 +36,21 @@ added_last k ks name is none =
     let absent : list_any (λ x. bytes_eq (string_bytes k) (string_bytes x)) ks ≡ false =
     rw is (sym (list_any-map string_bytes (λ n. bytes_eq name n) ks) ∙ none) in
     rw (absent, ← is) (map-append string_bytes ks (k ∷ []))
+
+pub any_keys : (k : String Global) (ks : List (String Global)) (name : List ℕ) → string_bytes k ≡ name
+    → list_any (λ x. bytes_eq (string_bytes k) (string_bytes x)) ks ≡ list_any (λ n. bytes_eq name n) (map string_bytes ks)
+any_keys k ks name is = rw is (sym (list_any-map string_bytes (λ n. bytes_eq name n) ks))
+
+-- a name more, where no key has it
+pub entered : (k : String Global) (ks js : List (String Global)) (name : List ℕ) → string_bytes k ≡ name → js ≡ insert_key (λ a b. bytes_eq (string_bytes a) (string_bytes b)) ks k
+    → map string_bytes js ≡ once (map string_bytes ks) (Some name)
+entered k ks js name is same =
+    ap (map string_bytes) same ∙ pick (list_any (λ x. bytes_eq (string_bytes k) (string_bytes x)) ks)
+    ∙ ap (λ (b : Bool). if b then map string_bytes ks else map string_bytes ks ++ name ∷ []) (any_keys k ks name is)
+  where
+    pick : (b : Bool) → map string_bytes (if b then ks else ks ++ k ∷ []) ≡ (if b then map string_bytes ks else map string_bytes ks ++ name ∷ [])
+    pick true = refl
+    pick false = map-append string_bytes ks (k ∷ []) ∙ ap (λ (n : List ℕ). map string_bytes ks ++ n ∷ []) is
 
 -- a text that is no UTF-8 is no name
 other_at : (text : List ℕ) (k : String Global) (b : Bool) → ¬ (IsUtf8 text) → bytes_eq text (string_bytes k) ≡ b → b ≡ false

@@ -2,7 +2,11 @@ pub mod Apart
 pub mod Counts
 pub mod EveryText
 pub mod Filled
+pub mod Grouped
 pub mod Keys
+pub mod Listed
+pub mod Mapped
 pub mod Memos
+pub mod Once
 pub mod Readings
 pub mod Sorted

@@ -1,3 +1,5 @@
 pub mod Names
 pub mod Spelled
 pub mod Known
+pub mod Tracks
+pub mod Groups

@@ -1,5 +1,5 @@
 //! Names by number and numbers by name.
-ghost use Rattle.std.specs.Prelude.{◌≡◌, ◌++◌, ◌∷◌, ◌<◌, ◌^◌, ◌-◌, [], length, position, bytes_eq, IfOk, IsOk, IfSome, OnOk, OnErr, false};
+ghost use Rattle.std.specs.Prelude.{map, string_bytes, ◌≡◌, ◌++◌, ◌∷◌, ◌<◌, ◌^◌, ◌-◌, [], length, position, bytes_eq, IfOk, IsOk, IfSome, OnOk, OnErr, false};
 ghost use Rattle.std.specs.List.{list_any};
 ghost use Rattle.ak_names.specs.Known.{AreNumbers, names_at};
 ghost use Rattle.ak_names.specs.Names.{DoesName};
@@ -62,6 +62,14 @@ impl Index {
             }
             Err(_) => None,
         }
+    }
+
+    /// The names, in order.
+    pub(crate) fn texts(&self) -> &[String]
+        ensures texts { map string_bytes result.now ≡ self.now }
+        ensures small { length result.now < 2 ^ 32 }
+    {
+        self.names.as_slice()
     }
 
     // The place of a name.

@@ -4,3 +4,5 @@ pub mod Readings
 pub mod Splits
 pub mod StepFacts
 pub mod Shapes
+pub mod Dates
+pub mod Examples

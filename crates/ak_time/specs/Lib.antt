@@ -1,3 +1,4 @@
 pub mod Calendar
 pub mod Times
 pub mod Steps
+pub mod Dates

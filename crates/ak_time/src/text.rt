@@ -1,6 +1,7 @@
 //! The texts of moments.
 ghost use Rattle.std.specs.Prelude.{◌≡◌, ℕ, List, pos, ◌<◌, length};
 ghost use Rattle.std.specs.Str.Parse.{IsNumeral, digits_value};
+ghost use Rattle.ak_time.specs.Dates.{iso_text};
 ghost use Rattle.ak_time.specs.Times.{IsCivilTime, ReadsTime};
 
 use crate::civil::parts_at;
@@ -52,6 +53,7 @@ pub fn iso(ts: u64) -> [u8; 25]
     ensures civil { IsCivilTime result }
     ensures reads { ReadsTime result (pos ts) }
     ensures one { (text : List ℕ) → length text ≡ 25 → IsCivilTime text → ReadsTime text (pos ts) → text ≡ result }
+    ensures text { result ≡ iso_text ts }
 {
     let p = parts_at(ts);
     let y = four(p.year as u32);

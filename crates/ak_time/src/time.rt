@@ -1,5 +1,5 @@
 //! The reading of times.
-ghost use Rattle.std.specs.Prelude.{◌≡◌, ◌↔◌, ℕ, ℤ, pos, neg_ℤ, ◌^◌, ◌<◌, IsErrOf};
+ghost use Rattle.std.specs.Prelude.{◌≡◌, ◌↔◌, ◌⊎◌, ℕ, ℤ, pos, neg_ℤ, ◌^◌, ◌<◌, IsErrOf, IfErr};
 ghost use Rattle.std.specs.Str.Parse.{IsNumeral, digits_value};
 ghost use Rattle.ak_time.specs.Times.{IsTimestamp, IsWhole, whole, IsCivilTime, civil_moment, ReadsTime, Answers};
 
@@ -62,6 +62,7 @@ pub fn read_time(text: &[u8]) -> Result<u64, Refusal>
     ensures ok { (t : ℕ) → (result ≡ Ok t) ↔ (ReadsTime text.now (pos t) × (t < 2 ^ 64)) }
     ensures bad { IsErrOf result Refusal.BadTime ↔ ((m : ℤ) → ¬ (ReadsTime text.now m)) }
     ensures range { IsErrOf result Refusal.TimeRange ↔ ((m : ℤ) × ReadsTime text.now m × ¬ (IsTimestamp m)) }
+    ensures error { IfErr result (λ e. (e ≡ Refusal.BadTime) ⊎ (e ≡ Refusal.TimeRange)) }
 {
     if text.len() > 8 && text[8] == b'T' {
         read_civil(text)

@@ -3,6 +3,8 @@ use Rattle.ak_time.specs.Calendar.{IsShown, moment}
 use Rattle.ak_time.specs.Times.{IsCivilText, IsCivilTime, ReadsTime, parts_of}
 use Rattle.ak_time.proofs.Readings.{reads_civil}
 use Rattle.ak_time.proofs.Shapes.{built, built_shows, moment_injective, text_injective}
+use Rattle.ak_time.proofs.Dates.{iso_text_reads}
+use Rattle.ak_time.specs.Dates.{iso_text}
 use Rattle.ak_time.proofs.text.iso.Goals as goal
 
 text_of : goal.After-nine-n → List ℕ
@@ -39,3 +41,9 @@ returns-clause-reads c = inr (civil c, same_moment c)
 pub returns-clause-one : goal.returns-clause-one
 unfolding text_of
 returns-clause-one c = only c
+
+pub returns-clause-text : goal.returns-clause-text
+unfolding text_of
+returns-clause-text c =
+    let reads = iso_text_reads c.args.ts (omega (arith, c.ranges.ts.fits)) in
+    sym (only c (iso_text c.args.ts) reads.0 reads.1 reads.2)
