@@ -1,10 +1,12 @@
 pub mod Accepting
 pub mod Adding
+pub mod Advancing
 pub mod Answering
 pub mod Blaming
 pub mod Chained
 pub mod Cutting
 pub mod Flushing
+pub mod KnownPuts
 pub mod Late
 pub mod Looking
 pub mod Naming

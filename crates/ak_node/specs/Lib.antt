@@ -4,3 +4,4 @@ pub mod Pieces
 pub mod Names
 pub mod Queries
 pub mod Opening
+pub mod Taken

@@ -3,6 +3,7 @@
 
 mod answers;
 mod keeper;
+mod kept;
 mod look;
 mod node;
 mod opening;
@@ -10,5 +11,6 @@ mod puts;
 mod reading;
 mod rows;
 mod session;
+mod taken;
 
 pub use node::{Node, Went};

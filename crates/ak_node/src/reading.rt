@@ -15,7 +15,9 @@ ghost use Rattle.ak_world.specs.Worlds.{World as Store, limits_of};
 
 use crate::answers::{answer, refuse};
 use crate::keeper::Keeper;
+use crate::kept::keep_put;
 use crate::session::Session;
+use crate::taken::{accept_known, known_put};
 use ak_base::Stop;
 use ak_host::Host;
 use ak_resp::{Message, RespError};
@@ -54,8 +56,8 @@ fn act<H: Host>(
     }
 }
 
-/// Reads on to the next message of the piece, and answers it. Whether there was one.
-fn advance<H: Host>(
+/// Reads byte by byte to the end of the next message of the piece, and answers it. Whether there was one.
+fn read_on<H: Host>(
     alloc: Global,
     host: &mut H,
     keeper: &mut Keeper,
@@ -89,6 +91,7 @@ fn advance<H: Host>(
     match session.reader.feed(alloc, piece, at) {
         Ok(Some(message)) => {
             act(alloc, host, keeper, session.port, &message)?;
+            keep_put(alloc, keeper, &message);
             Ok(true)
         }
         Ok(None) => Ok(false),
@@ -101,6 +104,49 @@ fn advance<H: Host>(
             refuse(alloc, host, session.port, refusal)?;
             Ok(false)
         }
+    }
+}
+
+/// Reads on to the next message of the piece, and answers it. Whether there was one.
+fn advance<H: Host>(
+    alloc: Global,
+    host: &mut H,
+    keeper: &mut Keeper,
+    session: &mut Session,
+    piece: &[u8],
+    at: &mut usize,
+) -> Result<bool, Stop>
+    requires at { at.old ≤ length piece.now }
+    requires ready { IsReady H.tells keeper.old (H.state host.old) }
+    requires port { 1 ≤ session.old.port }
+    ensures port { session.new.port ≡ session.old.port }
+    ensures within { at.new ≤ length piece.now }
+    ensures moves { IfOk result (λ more. IsTrue more → at.old < at.new) }
+    ensures stops { HasStops H.tells keeper.old.forest.meta (H.state host.old) (H.state host.new) result }
+    ensures becomes { H.tells → OnOk result (KeepsOrigins (H.state host.old) (H.state host.new) keeper.old.forest.meta keeper.new.forest.meta) }
+    ensures silent { H.tells → IsSilent (H.state host.old) (H.state host.new) }
+    ensures turns { H.tells → (mark_now (H.state host.new)).turns ≡ (mark_now (H.state host.old)).turns }
+    ensures sound { H.tells → (begun : Begun) → ReadsOn begun keeper.old session.old (begun.stream ++ take at.old piece.now) (mark_now (H.state host.old)) (H.state host.old) → IfErr result IsSoundStop }
+    ensures reads { H.tells → (begun : Begun) → ReadsOn begun keeper.old session.old (begun.stream ++ take at.old piece.now) (mark_now (H.state host.old)) (H.state host.old)
+        → AreNoQueries begun.stream piece.now → (H.state host.new).reads ≡ (H.state host.old).reads }
+    ensures ready { OnOk result (IsReady H.tells keeper.new (H.state host.new)) }
+    ensures worn { H.tells → (begun : Begun) → ReadsOn begun keeper.old session.old (begun.stream ++ take at.old piece.now) (mark_now (H.state host.old)) (H.state host.old)
+        → OnWorn result (WearsPiece begun piece.now) }
+    ensures more { H.tells → (begun : Begun) → ReadsOn begun keeper.old session.old (begun.stream ++ take at.old piece.now) (mark_now (H.state host.old)) (H.state host.old)
+        → IfOk result (λ more. more ≡ true → ReadsOn begun keeper.new session.new (begun.stream ++ take at.new piece.now) (mark_now (H.state host.new)) (H.state host.new)) }
+    ensures last { H.tells → (begun : Begun) → ReadsOn begun keeper.old session.old (begun.stream ++ take at.old piece.now) (mark_now (H.state host.old)) (H.state host.old)
+        → IfOk result (λ more. more ≡ false → AfterPiece begun piece.now keeper.new session.new (mark_now (H.state host.new)) (H.state host.new)) }
+    ensures moments { H.tells → (begun : Begun) → ReadsOn begun keeper.old session.old (begun.stream ++ take at.old piece.now) (mark_now (H.state host.old)) (H.state host.old)
+        → Passes (InPiece begun piece.now) (LeavesInPiece begun piece.now) (H.state host.old) (H.state host.new) }
+{
+    match known_put(keeper, &session.reader, piece, *at) {
+        Some(known) => {
+            session.reader.pass(known.length);
+            *at += known.length;
+            accept_known(alloc, host, keeper, known.series, known.point)?;
+            Ok(true)
+        }
+        None => read_on(alloc, host, keeper, session, piece, at),
     }
 }
 

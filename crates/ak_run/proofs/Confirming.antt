@@ -37,3 +37,9 @@ confirms_front port k number (r ∷ front) rest all later =
     let here : List ℕ = if r.port == port then r.bytes else [] in
     let past : length (bytes_at port front) + k ≡ (length (here ++ bytes_at port front) + k) - length here = omega (arith, length-append here (bytes_at port front)) in
     ((λ at some. all.0), subst (λ (n : ℕ). Confirms port n number (front ++ rest)) past (confirms_front port k number front rest all.1 later))
+
+-- with a greater number
+pub confirms_more : (port told number more : ℕ) (rs : List Reply) → number ≤ more → Confirms port told number rs → Confirms port told more rs
+confirms_more port told number more [] later all = tt
+confirms_more port told number more (r ∷ rs) later all =
+    ((λ at some. omega (arith, all.0 at some, later)), confirms_more port (told - length (if r.port == port then r.bytes else [])) number more rs later all.1)

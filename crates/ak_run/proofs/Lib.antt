@@ -8,6 +8,7 @@ pub mod EveryValue
 pub mod Examples
 pub mod Giving
 pub mod Growing
+pub mod Heads
 pub mod Holding
 pub mod OneAsking
 pub mod Orders

@@ -5,3 +5,4 @@ pub mod Replies
 pub mod Run
 pub mod Keeping
 pub mod Fitting
+pub mod Bulks

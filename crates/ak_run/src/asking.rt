@@ -1,6 +1,7 @@
 //! What a message asks for.
-ghost use Rattle.std.specs.Prelude.{◌≡◌, ◌≤◌, ◌∷◌, [], map, Some, Ok, IfOk, IfSome, IfNone};
+ghost use Rattle.std.specs.Prelude.{ℕ, List, ◌≡◌, ◌≢◌, ◌≤◌, ◌∷◌, [], length, map, Some, Ok, IfOk, IfSome, IfNone, MatchOption};
 ghost use Rattle.ak_names.specs.Names.{DoesName};
+ghost use Rattle.ak_resp.specs.Puts.{AreParts, AreValues, IsPutOf, IsTimed};
 ghost use Rattle.ak_run.specs.Asking.{Asks, PutAsks, OnNames, OnTime};
 ghost use Rattle.ak_run.specs.Fitting.{IsAllowed};
 
@@ -10,7 +11,7 @@ use crate::times::read_put_time;
 use crate::values::read_values;
 use ak_base::{Point, Refusal, Texts, read_value};
 use ak_names::{NameError, metrics, read_names};
-use ak_resp::{Message, Part};
+use ak_resp::{LentParts, LentValues, Message, Part, WholePut};
 use std::alloc::{AllocError, Global};
 
 // What a put of these names and this time asks for.
@@ -93,19 +94,45 @@ pub fn ask(alloc: Global, message: &Message, scale: u32) -> Result<Asked, AllocE
     }
 }
 
-/// What a put of a canonical name, and of one value, asks for: a point with its time in nanoseconds since the beginning of
-/// 1970, and its value in units of 10^-scale. None exactly where it asks for a refusal, which `ask` tells.
-pub fn ask_known(name: &[u8], time: &[u8], value: &[u8], scale: u32) -> Option<Point>
-    requires scale { scale ≤ 9 }
-    requires canonical { DoesName name.now (name.now ∷ []) }
-    ensures some { IfSome result (λ p. PutAsks scale name.now time.now (value.now ∷ []) (Asked.Points (name.now ∷ []) p.ts (p.value ∷ []))) }
-    ensures none { IfNone result ((refusal : Refusal) × PutAsks scale name.now time.now (value.now ∷ []) (Asked.Refused refusal)) }
+/// The text of the one value of an array; `None` exactly where it hasn't one value.
+fn only_part<'a>(values: LentParts<'a>) -> Option<&'a [u8]>
+    ensures { (parts : List Part) → AreParts values.entry.count values.entry.spelled.now parts
+        → MatchOption result (length parts ≢ 1) (λ text. map (λ v. v.bytes) parts ≡ text.now ∷ []) }
 {
-    match read_put_time(time) {
-        Ok(ts) => match read_value(value, scale) {
-            Ok(value) => Some(Point { ts, value }),
-            Err(_refusal) => None,
-        },
+    if values.count != 1 {
+        return None;
+    }
+    let (first, _others) = values.split()?;
+    Some(first.text)
+}
+
+/// The text of the one value of a put; `None` exactly where it hasn't one value.
+fn only_value<'a>(values: LentValues<'a>) -> Option<&'a [u8]>
+    ensures { (parts : List Part) → AreValues values.entry parts
+        → MatchOption result (length parts ≢ 1) (λ text. map (λ v. v.bytes) parts ≡ text.now ∷ []) }
+{
+    match values {
+        LentValues::One(value) => Some(value.text),
+        LentValues::Array(parts) => only_part(parts),
+    }
+}
+
+/// The point that a put asks for whose text names one series: its time in nanoseconds since the beginning of 1970, and its value
+/// in units of 10^-scale. It takes no memory. `None` exactly where such a put asks for a refusal, which `ask` tells.
+pub fn ask_known(put: &WholePut, scale: u32) -> Option<Point>
+    requires scale { scale ≤ 9 }
+    requires timed { IsTimed put.now }
+    ensures some { IfSome result (λ p. (name : List ℕ) (m : Message) → DoesName put.now.name.text.now (name ∷ []) → IsPutOf put.now m
+        → Asks scale m (Asked.Points (name ∷ []) p.ts (p.value ∷ []))) }
+    ensures none { IfNone result ((name : List ℕ) (m : Message) → DoesName put.now.name.text.now (name ∷ []) → IsPutOf put.now m
+        → (refusal : Refusal) × Asks scale m (Asked.Refused refusal)) }
+{
+    let Some(text) = only_value(put.values) else {
+        return None;
+    };
+    let ts = put.ts;
+    match read_value(text, scale) {
+        Ok(value) => Some(Point { ts, value }),
         Err(_refusal) => None,
     }
 }

@@ -3,6 +3,7 @@
 
 mod asked;
 mod asking;
+mod bulks;
 mod laws;
 mod queries;
 mod replies;
@@ -12,6 +13,7 @@ mod values;
 
 pub use asked::{Asked, Values};
 pub use asking::{ask, ask_known};
+pub use bulks::{begin_bulk, end_bulk};
 pub use laws::{
     every_asking, every_run, one_asking, one_run, points_come_in_order, views_go_on,
     views_hold_accepted_points, views_hold_prefixes,

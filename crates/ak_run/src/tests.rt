@@ -4,7 +4,7 @@ ghost use Rattle.ak_run.specs.Fitting.{IsAllowed};
 use super::*;
 use crate::replies::write_row;
 use ak_base::{Bytes, Point, Refusal, Texts};
-use ak_resp::{Message, Part, PartKind, Parts};
+use ak_resp::{Message, Part, PartKind, Parts, Resp};
 use std::alloc::{AllocError, Global};
 
 // A part of a message.
@@ -82,40 +82,35 @@ fn points(rt: HostRuntime) -> Result<(), AllocError> {
     Ok(())
 }
 
-// What a put of one value asks for at scale 3, whose name is canonical.
-fn known(
-    alloc: Global,
-    name: &[u8],
-    time: &[u8],
-    value: &[u8],
-) -> Result<Option<Point>, AllocError> {
-    if let Asked::Points { names, .. } = ask_put(alloc, name, b"1", "1")? {
-        if let [only] = names.as_slice() {
-            return Ok(ask_known(only.as_str().as_bytes(), time, value, 3));
-        }
+// The point that a put asks for at scale 3 which stands whole in these bytes.
+fn known(alloc: Global, put: &[u8]) -> Result<Option<Point>, AllocError> {
+    let reader = Resp::new(alloc)?;
+    match reader.whole(put, 0) {
+        Some(put) => Ok(ask_known(&put, 3)),
+        None => Ok(None),
     }
-    Ok(None)
 }
 
 #[test]
 fn known_puts(rt: HostRuntime) -> Result<(), AllocError> {
-    let puts: [(&[u8], &[u8], Option<Point>); 6] = [
-        (b"7", b"1.5", Some(Point { ts: 7, value: 1500 })),
+    let two = Point {
+        ts: 0,
+        value: -2000,
+    };
+    let puts: [(&[u8], Option<Point>); 7] = [
         (
-            b"+0",
-            b"-2",
-            Some(Point {
-                ts: 0,
-                value: -2000,
-            }),
+            b"+cpu host=a\r\n:7\r\n+1.5\r\n",
+            Some(Point { ts: 7, value: 1500 }),
         ),
-        (b"-1", b"1", None),
-        (b"20141210T074343", b"1", None),
-        (b"7", b"1.0001", None),
-        (b"7", b"9223372036854776", None),
+        (b"$3\r\ncpu\r\n$1\r\n0\r\n:-2\r\n", Some(two)),
+        (b"+cpu\r\n+0\r\n*1\r\n:-2\r\n", Some(two)),
+        (b"+cpu\r\n:7\r\n*0\r\n", None),
+        (b"+cpu\r\n:7\r\n*2\r\n:1\r\n:2\r\n", None),
+        (b"+cpu\r\n:7\r\n+1.0001\r\n", None),
+        (b"+cpu\r\n:7\r\n:9223372036854776\r\n", None),
     ];
-    for (time, value, point) in puts {
-        assert!(rt; known(rt.alloc(), b"cpu host=a", time, value)? == point);
+    for (put, point) in puts {
+        assert!(rt; known(rt.alloc(), put)? == point);
     }
     Ok(())
 }
@@ -228,4 +223,22 @@ fn metrics(rt: HostRuntime) {
     assert!(rt; is_of(b"cpu", b"cpu"));
     assert!(rt; !is_of(b"cpu host=a", b"cp"));
     assert!(rt; !is_of(b"cpu host=a", b""));
+}
+
+#[test]
+fn bulks(rt: HostRuntime) -> Result<(), AllocError> {
+    let alloc = rt.alloc();
+    let mut reply = Bytes::new(alloc);
+    begin_bulk(alloc, &mut reply)?;
+    reply.extend(alloc, b"cpu,7,1\ncpu,8,2\n")?;
+    let start = end_bulk(alloc, &mut reply)?;
+    assert_eq!(rt;
+        &reply.as_slice()[start..],
+        b"$16\r\ncpu,7,1\ncpu,8,2\n\r\n".as_slice()
+    );
+    let mut nothing = Bytes::new(alloc);
+    begin_bulk(alloc, &mut nothing)?;
+    let start = end_bulk(alloc, &mut nothing)?;
+    assert_eq!(rt; &nothing.as_slice()[start..], b"$0\r\n\r\n".as_slice());
+    Ok(())
 }

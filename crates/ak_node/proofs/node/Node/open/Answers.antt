@@ -165,5 +165,11 @@ returns-in-Ok-clause-files g c told = c.repaired.ensures.reads.files told ∙ c.
 pub returns-in-Ok-clause-reads : goal.returns-in-Ok-clause-reads
 returns-in-Ok-clause-reads g c told =
     let kept : c.over.result.keeper.forest.meta ≡ c.in_ok-opened.opened.meta = ap (λ (k : Keeper). k.forest.meta) c.over.ensures.keeper ∙ c.in-Ok.ensures.opened.meta_is in
-    omega (arith, c.repaired.ensures.few told, c.open_newest.ensures.reads told, c.sync_all.ensures.reads told, ap (λ (l : List ℕ). slice_index l 0) c.sync_all.ensures.sizes,
-    ap (λ (m : Content). length m.series) kept)
+    omega (
+      arith,
+      c.repaired.ensures.few told,
+      c.open_newest.ensures.reads told,
+      c.sync_all.ensures.reads told,
+      ap (λ (l : List ℕ). slice_index l 0) c.sync_all.ensures.sizes,
+      ap (λ (m : Content). length m.series) kept,
+    )
