@@ -31,26 +31,40 @@ quiet_passes view {P} {old} {new} run =
 
 -- ---- What a stop leaves
 
-pub keeps_weaker : {view : View} {P Q : Files → Type 0} {old new : HostState} → KeepsFrom view P old new → ((disk : Files) → P disk → Q disk) → KeepsFrom view Q old new
+pub keeps_weaker : {view : View} {P Q : Files → Type 0} {opened : Type 0} {old new : HostState} → KeepsFrom view P opened old new → ((disk : Files) → P disk → Q disk)
+    → KeepsFrom view Q opened old new
 keeps_weaker keeps is = record {
   barrier = keeps.barrier;
   later = keeps.later;
+  within = keeps.within;
   turns_before = keeps.turns_before;
   before = λ t disk from until ends left. is disk (keeps.before t disk from until ends left);
   from = keeps.from;
 }
 
 -- where nothing is done
-pub keeps_starts : (view : View) (words : List (List ℕ)) (host : HostState) → KeepsFrom view (LeavesBefore words host) host host
-keeps_starts view words host = record {
+pub keeps_starts : {opened : Type 0} (view : View) (words : List (List ℕ)) (host : HostState) → ¬ opened → KeepsFrom view (LeavesBefore words host) opened host host
+keeps_starts {opened} view words host failed = record {
   barrier = host.moment + 1;
   later = omega arith;
+  within = λ o. absurd (failed o);
   turns_before = λ t from until ends. let at : t ≡ host.moment = omega arith in ap (λ k. (host.mark k).turns) at;
   before = λ t disk from until ends left.
       let at : t ≡ host.moment = omega arith in
       let now = subst (λ k. host.leaves k disk) at left in
       record { run = λ run. now; scratch = λ none free. inl (free_none disk (free disk now)) };
   from = λ t disk from until left. absurd (omega arith);
+}
+
+-- where less is asked for
+pub keeps_opened : {view : View} {P : Files → Type 0} {opened asked : Type 0} {old new : HostState} → (asked → opened) → KeepsFrom view P opened old new → KeepsFrom view P asked old new
+keeps_opened is keeps = record {
+  barrier = keeps.barrier;
+  later = keeps.later;
+  within = λ a. keeps.within (is a);
+  turns_before = keeps.turns_before;
+  before = keeps.before;
+  from = keeps.from;
 }
 
 pub leaves_run : (words : List (List ℕ)) (host : HostState) → IsRun words → (disk : Files) → LeavesNow host disk → LeavesBefore words host disk

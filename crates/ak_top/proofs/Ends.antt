@@ -106,7 +106,7 @@ module _ (start mid mark : Mark) (line : List ℕ) (t : Told mid mark 0 line) wh
 
   told_line : (view : View) (s : Stop) → HasWorn view start mid s → HasWorn view start mark s
   unfolding worn_line
-  told_line view s w = record { is = worn_line view w.is; by = w.by }
+  told_line view s w = record { is = worn_line view w.is; by = w.by; by_the_last = w.by_the_last }
 
   kept_line : (view : View) (disk : Files) → IsKept view start mid disk → IsKept view start mark disk
   kept_line view disk k = record {
@@ -212,12 +212,13 @@ making_failed {M} limits old mid new free run tell =
     (passes_weaker tell (λ mark m. tt) (λ mark disk m left. so_far.disks mid.moment disk run.later (omega arith) left))
 
 -- the moments of the line
-pub keeps_on : (view : View) (P : Files → Type 0) (line : List ℕ) (old mid new : HostState) → old.moment ≤ mid.moment → KeepsFrom view P old mid
-    → PortPasses (λ mark. Lined (mark_now mid) mark line) mid new → KeepsFrom view P old new
-keeps_on view P line old mid new later k tell = elim (cases_lt mid.moment k.barrier) [
+pub keeps_on : {opened : Type 0} (view : View) (P : Files → Type 0) (line : List ℕ) (old mid new : HostState) → old.moment ≤ mid.moment → KeepsFrom view P opened old mid
+    → PortPasses (λ mark. Lined (mark_now mid) mark line) mid new → KeepsFrom view P opened old new
+keeps_on {opened} view P line old mid new later k tell = elim (cases_lt mid.moment k.barrier) [
   | inl after ↦ record {
     barrier = k.barrier + new.moment + 1;
     later = omega (arith, k.later);
+    within = λ o. absurd (omega (arith, k.within o, after));
     turns_before = λ t from below until. turns_at after t from until;
     before = λ t disk from below until left. had after t disk from until left;
     from = λ t disk from until left. absurd (omega (arith, from, until));
@@ -225,6 +226,7 @@ keeps_on view P line old mid new later k tell = elim (cases_lt mid.moment k.barr
   | inr before ↦ record {
     barrier = k.barrier;
     later = k.later;
+    within = λ o. omega (arith, before, tell.later);
     turns_before = λ t from until upto.
         let early : t ≤ mid.moment = omega (arith, until, before) in
         ap (λ (m : Mark). m.turns) (tell.mark_kept t early) ∙ k.turns_before t from until early;

@@ -8,3 +8,4 @@ pub mod Stopping
 pub mod Taking
 pub mod Words
 pub mod Turning
+pub mod Across

@@ -342,6 +342,9 @@ module _ (view : View) (start before : Mark) (node : Node) (host : HostState) (c
       worn = told_worn w.wears.next.content s w.wears.worn;
     };
     by = w.wears.worn;
+    by_the_last = λ world replies run.
+        let same : world ≡ r.world = (one_run (take (length (r.since.turns ++ w.taking ∷ []) - 1) (r.since.turns ++ w.taking ∷ [])) (world_of view) world r.world replies r.answer run (run_last w.taking)).0 in
+        ap (λ (x : World). x.content.worn) same ∙ r.stands.holds.keeps.not_worn;
   }
 
 -- once all turns are spent

@@ -31,10 +31,12 @@ pub later_of : {P : Files → Type 0} (old new : HostState) → DiskPasses P old
 later_of old new run = run.later
 
 -- the store was not opened
-pub keeps_none : {P : Files → Type 0} (view : View) (old new : HostState) → old.moment ≤ new.moment → HoldsStill P old new → KeepsFrom view P old new
-keeps_none {P} view old new later still = record {
+pub keeps_none : {P : Files → Type 0} {asked : Type 0} (view : View) (old new : HostState) → ¬ asked → old.moment ≤ new.moment → HoldsStill P old new
+    → KeepsFrom view P asked old new
+keeps_none {P} {asked} view old new failed later still = record {
   barrier = new.moment + 1;
   later = omega (arith, later);
+  within = λ o. absurd (failed o);
   turns_before = λ t from before until. ap (λ (m : Mark). m.turns) (still.marks t from until);
   before = λ t disk from before until left. still.disks t disk from until left;
   from = λ t disk from until left. absurd (omega arith);
@@ -43,10 +45,11 @@ keeps_none {P} view old new later still = record {
 module _ (view : View) (node : Node) (old mid new : HostState) (same : mark_now mid ≡ mark_now old) (stands : Stands node (world_of view) mid)
     (moments : Passes (IsQuiet view (mark_now mid)) (IsKept view (mark_now mid)) mid new) where
   -- the store was opened, and served
-  pub keeps_served : {P : Files → Type 0} → old.moment ≤ mid.moment → HoldsStill P old mid → KeepsFrom view P old new
-  keeps_served {P} later still = record {
+  pub keeps_served : {P : Files → Type 0} {asked : Type 0} → old.moment ≤ mid.moment → HoldsStill P old mid → KeepsFrom view P asked old new
+  keeps_served {P} {asked} later still = record {
     barrier = mid.moment;
     later = later;
+    within = λ o. moments.later;
     turns_before = λ t from before until. ap (λ (m : Mark). m.turns) (moments.mark_kept t (omega (arith, before)) ∙ still.marks t from (omega (arith, before)));
     before = λ t disk from before until left. still.disks t disk from (omega (arith, before)) ((moments.leaves_kept t disk (omega (arith, before))).0 left);
     from = λ t disk from until left. subst (λ (m : Mark). IsKept view m (new.mark t) disk) same (kept t disk from until left);

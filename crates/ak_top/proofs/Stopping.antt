@@ -1,7 +1,8 @@
 -- Stops that are handed on.
-use Rattle.std.proofs.Common.{◌≡◌, ◌⊎◌, inl, inr, ℕ, ◌≤◌, true, List, [], Result, Ok, Err, IfErr, refl, sym, subst, arith}
+use Rattle.std.proofs.Common.{◌≡◌, ◌⊎◌, inl, inr, ℕ, ◌≤◌, true, List, [], Result, Ok, Err, IfErr, refl, sym, ◌∙◌, ap, subst, arith}
 use Rattle.std.specs.Result.{IsErrAnd}
 use Rattle.ak_base.specs.declared.stop.Stop.{Stop}
+use Rattle.ak_base.specs.Stops.{status_of}
 use Rattle.ak_base.specs.declared.stop.Stop.TheVariants.{Usage, Damaged, Disk, Port, Memory, Budget, Worn, NoStore, Exists}
 use Rattle.ak_host.specs.Moments.{HostState, mark_now}
 use Rattle.ak_image.specs.Blocks.{seen_in}
@@ -9,14 +10,14 @@ use Rattle.ak_image.specs.Images.{IsSound, StandsFor}
 use Rattle.ak_meta.specs.Contents.{Content}
 use Rattle.ak_node.specs.Calls.{IsSoundStop}
 use Rattle.ak_node.specs.Opening.{IsDamagedByFound, IsFoundRecord, IsNodeOpenStop}
-use Rattle.ak_record.specs.Stops.{IsDamaged}
+use Rattle.ak_record.specs.Stops.{IsDamaged, IsMakeStop}
 use Rattle.ak_tree.proofs.Becoming.{becomes_same}
 use Rattle.ak_tree.specs.Stops.{IsWornBy, OnWorn}
 use Rattle.ak_world.specs.Views.{View, first_view}
 use Rattle.ak_world.specs.Worlds.{World as Store}
 use Rattle.ak_top.specs.Calls.{IsServeStop, HasServeStops}
 use Rattle.ak_top.specs.Commands.{IsRun, scratch_limits}
-use Rattle.ak_top.specs.Ends.{IsDamagedIn, IsEnd, IsRunStop, IsScratchStop, IsServing}
+use Rattle.ak_top.specs.Ends.{IsDamagedIn, IsEnd, IsRunStop, IsScratchStop, IsServing, IsPastOpening, HasOpened, IsOpenedBy}
 use Rattle.ak_top.specs.Told.{HasWorn}
 
 -- ---- Worn stores
@@ -162,3 +163,30 @@ serve_serving told was old new Exists (inr is) sound = cc
 pub stops_serving : (told : Type 0) (was : Content) (old new : HostState) (r : Result (Unit {0}) Stop) → HasServeStops told was old new r → IfErr r IsSoundStop → IfErr r IsServing
 stops_serving told was old new (Ok v) stops sound = tt
 stops_serving told was old new (Err s) stops sound = serve_serving told was old new s stops.stops sound
+
+-- ---- What comes before a store is open
+
+pub open_failed : (r : Result (Unit {0}) Stop) (stop : Stop) → IsErrAnd r (λ e. e ≡ stop) → (stop ≡ Disk) ⊎ (stop ≡ Memory) → ¬ (HasOpened r)
+open_failed (Ok v) stop err is opened = absurd err
+open_failed (Err e) stop same (inl is) opened = opened.no_disk (same ∙ is)
+open_failed (Err e) stop same (inr is) opened = opened.no_memory (same ∙ is)
+
+pub make_failed : (told : Type 0) (old new : HostState) (r : Result (Unit {0}) Stop) (stop : Stop) → IsErrAnd r (λ e. e ≡ stop) → IsMakeStop told old new stop → ¬ (HasOpened r)
+make_failed told old new (Ok v) stop err is opened = absurd err
+make_failed told old new (Err e) Disk same is opened = opened.no_disk same
+make_failed told old new (Err e) Memory same is opened = opened.no_memory same
+make_failed told old new (Err e) Exists same is opened = opened.not_there same
+make_failed told old new (Err e) Usage same is opened = absurd is
+make_failed told old new (Err e) (Damaged file block) same is opened = absurd is
+make_failed told old new (Err e) Port same is opened = absurd is
+make_failed told old new (Err e) Budget same is opened = absurd is
+make_failed told old new (Err e) (Worn ordinal fill number) same is opened = absurd is
+make_failed told old new (Err e) NoStore same is opened = absurd is
+
+-- a status tells it
+pub opened_by : (s : Stop) (status : ℕ) → status ≡ status_of s → IsOpenedBy status → IsPastOpening s
+opened_by s status is o = record {
+  no_disk = λ e. o.no_disk (is ∙ ap status_of e);
+  no_memory = λ e. o.no_memory (is ∙ ap status_of e);
+  not_there = λ e. o.not_there (is ∙ ap status_of e);
+}

@@ -30,12 +30,16 @@ Makes words limits = Creates words limits ⊎ ((words ≡ []) × (limits ≡ scr
 abbrev pub Serves : List (List ℕ) → Type 0
 Serves words = IsRun words ⊎ (words ≡ [])
 
--- The opening view: for `run` that for which the disk, which is sound, stands as it reads; with no words the first view of the
--- store that is made.
-pub record Opens (words : List (List ℕ)) (host : HostState) (view : View) : Type 0 where
-  pub sound : IsRun words → IsSound host.files
-  pub run : IsRun words → StandsFor view host.files
+-- The opening view over these files: for `run` that for which they, which are sound, stand; with no words the first view of
+-- the store that is made.
+pub record OpensFiles (words : List (List ℕ)) (files : Files) (view : View) : Type 0 where
+  pub sound : IsRun words → IsSound files
+  pub run : IsRun words → StandsFor view files
   pub scratch : words ≡ [] → view ≡ first_view scratch_limits
+
+-- the opening view over the files as they read
+abbrev pub Opens : List (List ℕ) → HostState → View → Type 0
+Opens words host view = OpensFiles words host.files view
 
 -- no disk that a stop may leave has a store
 abbrev pub AreFree : HostState → Type 0

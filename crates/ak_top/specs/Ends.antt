@@ -73,6 +73,22 @@ pub record IsOwn (status : ℕ) : Type 0 where
 abbrev pub IsExists : Stop → Type 0
 IsExists s = s ≡ Exists
 
+-- None of the stops that come before a store is open: no fault of the disk, want of memory, or store that is there already.
+pub record IsPastOpening (s : Stop) : Type 0 where
+  pub no_disk : s ≢ Disk
+  pub no_memory : s ≢ Memory
+  pub not_there : s ≢ Exists
+
+abbrev pub HasOpened : Result (Unit {0}) Stop → Type 0
+HasOpened (Ok v) = Unit {0}
+HasOpened (Err s) = IsPastOpening s
+
+-- the same of a status
+pub record IsOpenedBy (status : ℕ) : Type 0 where
+  pub no_disk : status ≢ 3
+  pub no_memory : status ≢ 5
+  pub not_there : status ≢ 9
+
 -- Why a run stops: as it is opened, or as it is served.
 abbrev pub IsRunStop : Type 0 → HostState → HostState → Stop → Type 0
 IsRunStop told old new NoStore = told → IsNoStore old.files

@@ -37,10 +37,11 @@ pub record IsKept (opening : View) (start mark : Mark) (disk : Files) : Type 0 w
   pub prefixes : IsPrefix all.last.content.series view
 
 -- At each moment from the barrier on, a stop leaves such a disk. Before it, no turn is taken, and a stop leaves a disk
--- that has P.
-pub record KeepsFrom (opening : View) (P : Files → Type 0) (old new : HostState) : Type 0 where
+-- that has P. Where the store was opened, it is no later than the end of the call.
+pub record KeepsFrom (opening : View) (P : Files → Type 0) (opened : Type 0) (old new : HostState) : Type 0 where
   pub barrier : ℕ
   pub later : old.moment ≤ barrier
+  pub within : opened → barrier ≤ new.moment
   pub turns_before : (t : ℕ) → old.moment ≤ t → t < barrier → t ≤ new.moment → (new.mark t).turns ≡ (old.mark old.moment).turns
   pub before : (t : ℕ) (disk : Files) → old.moment ≤ t → t < barrier → t ≤ new.moment → new.leaves t disk → P disk
   pub from : (t : ℕ) (disk : Files) → barrier ≤ t → t ≤ new.moment → new.leaves t disk → IsKept opening (old.mark old.moment) (new.mark t) disk

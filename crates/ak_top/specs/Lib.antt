@@ -4,3 +4,4 @@ pub mod Kept
 pub mod Ends
 pub mod Calls
 pub mod Turns
+pub mod Again

@@ -1,5 +1,5 @@
 -- What stands told at a moment of a run, and what each status says of it.
-use Rattle.std.specs.Prelude.{ℕ, ◌≡◌, ◌⊎◌, ◌-◌, ◌^◌, ◌≤◌, ◌++◌, ◌∷◌, [], List, length, take, true}
+use Rattle.std.specs.Prelude.{ℕ, ◌≡◌, ◌⊎◌, ◌-◌, ◌^◌, ◌≤◌, ◌++◌, ◌∷◌, [], List, length, take, true, false}
 use Rattle.std.specs.List.{AllByRecursion}
 use Rattle.ak_base.specs.declared.stop.Stop.{Stop}
 use Rattle.ak_base.specs.Stops.{stop_text, status_of}
@@ -65,10 +65,12 @@ pub record IsWorn (view : View) (start mark : Mark) : Type 0 where
   pub run : RunsFrom (world_of view) since.turns last replies
   pub worn : last.content.worn ≡ true
 
--- the same, and the stop tells so
+-- The turns since have worn the store, and the stop tells so. It was the last of them: without it the store isn't worn.
 pub record HasWorn (view : View) (start mark : Mark) (stop : Stop) : Type 0 where
   pub is : IsWorn view start mark
   pub by : IsWornBy is.last.content stop
+  pub by_the_last : (before : World) (replies : List Reply)
+      → RunsFrom (world_of view) (take (length is.since.turns - 1) is.since.turns) before replies → before.content.worn ≡ false
 
 -- the console was told nothing so far
 pub record IsQuiet (view : View) (start mark : Mark) : Type 0 where

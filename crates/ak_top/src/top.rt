@@ -17,7 +17,7 @@ ghost use Rattle.ak_world.specs.Views.{View, first_view};
 ghost use Rattle.ak_words.specs.Words.{IsCommand};
 ghost use Rattle.ak_top.specs.Calls.{HasServeStops, HasTold, OnStop, IsBudget, AfterWhole};
 ghost use Rattle.ak_top.specs.Commands.{IsRun, Creates, Makes, Serves, Opens, AreFree, IsMaking, LeavesBefore, scratch_limits};
-ghost use Rattle.ak_top.specs.Ends.{EndsBy, IsEnd, IsOneOf, IsOwn, IsRunStop, IsScratchStop, OnlyBy, IsMissing, IsThere, IsRefused, IsServing, IsServingOrThere, IsExists, HasServed, IsFinished};
+ghost use Rattle.ak_top.specs.Ends.{EndsBy, IsEnd, IsOneOf, IsOwn, IsRunStop, IsScratchStop, OnlyBy, IsMissing, IsThere, IsRefused, IsServing, IsServingOrThere, IsExists, HasServed, HasOpened, IsOpenedBy, IsFinished};
 ghost use Rattle.ak_top.specs.Kept.{IsKept, KeepsFrom, KeepsLast};
 ghost use Rattle.ak_run.specs.Run.{World, world_of};
 ghost use Rattle.ak_node.specs.Standing.{CanServe, Stands, InTurn, LeavesInTurn, LeavesLast, WearsIn, TakesOne, TakesTurn};
@@ -121,7 +121,7 @@ fn run<H: Host>(alloc: Global, host: &mut H) -> Result<(), Stop>
     ensures served { H.tells → (view : View) → IsSound (H.state host.old).files → StandsFor view (H.state host.old).files → HasServed view (mark_now (H.state host.old)) (H.state host.new) result }
     ensures sound { H.tells → (view : View) → IsSound (H.state host.old).files → StandsFor view (H.state host.old).files → IfErr result IsServing }
     ensures stands { H.tells → (view : View) → IsSound (H.state host.old).files → StandsFor view (H.state host.old).files
-        → KeepsFrom view (LeavesNow (H.state host.old)) (H.state host.old) (H.state host.new) }
+        → KeepsFrom view (LeavesNow (H.state host.old)) (HasOpened result) (H.state host.old) (H.state host.new) }
 {
     let node = Node::open(alloc, host)?;
     serve(alloc, host, node)
@@ -144,7 +144,7 @@ fn scratch<H: Host>(alloc: Global, host: &mut H) -> Result<(), Stop>
     ensures served { H.tells → HasServed (first_view scratch_limits) (mark_now (H.state host.old)) (H.state host.new) result }
     ensures sound { H.tells → IfErr result IsServingOrThere }
     ensures stands { H.tells → KeepsFrom (first_view scratch_limits) (λ disk. AreFree (H.state host.old) → IsMaking scratch_limits disk)
-        (H.state host.old) (H.state host.new) }
+        (HasOpened result) (H.state host.old) (H.state host.new) }
 {
     let node = Node::make(alloc, host, &Limits::SCRATCH)?;
     serve(alloc, host, node)
@@ -191,7 +191,7 @@ fn perform<H: Host>(alloc: Global, words: &[String], host: &mut H) -> Result<(),
     ensures sound { H.tells → (view : View) → Opens (map string_bytes words.now) (H.state host.old) view → Serves (map string_bytes words.now)
         → IfErr result IsServingOrThere }
     ensures stands { H.tells → (view : View) → Opens (map string_bytes words.now) (H.state host.old) view → Serves (map string_bytes words.now)
-        → KeepsFrom view (LeavesBefore (map string_bytes words.now) (H.state host.old)) (H.state host.old) (H.state host.new) }
+        → KeepsFrom view (LeavesBefore (map string_bytes words.now) (H.state host.old)) (HasOpened result) (H.state host.old) (H.state host.new) }
     ensures creating { H.tells → (limits : Limits) → Creates (map string_bytes words.now) limits → AreFree (H.state host.old)
         → DiskPasses (IsMaking limits) (H.state host.old) (H.state host.new) }
     ensures created { H.tells → (limits : Limits) → Creates (map string_bytes words.now) limits
@@ -268,7 +268,7 @@ pub fn akl<H: Host>(alloc: Global, words: &[String], host: &mut H) -> u8
 
     // At each moment from the opening on, each disk that a stop leaves is sound and stands for a view of the run.
     ensures stands { H.tells → (view : View) → Opens (map string_bytes words.now) (H.state host.old) view → Serves (map string_bytes words.now)
-        → KeepsFrom view (LeavesBefore (map string_bytes words.now) (H.state host.old)) (H.state host.old) (H.state host.new) }
+        → KeepsFrom view (LeavesBefore (map string_bytes words.now) (H.state host.old)) (IsOpenedBy result) (H.state host.old) (H.state host.new) }
     ensures last { H.tells → (view : View) → Opens (map string_bytes words.now) (H.state host.old) view → Serves (map string_bytes words.now)
         → result ≡ 0 → KeepsLast view (mark_now (H.state host.old)) (mark_now (H.state host.new)) (H.state host.new) }
     // While a store is made, a stop leaves none, or its first view.

@@ -1,5 +1,7 @@
 use Rattle.std.proofs.Common.{inl, refl, sym, ◌∙◌}
 use Rattle.ak_top.proofs.Ends.{silent_console, told_done, told_failed, quiet_end, lined, making_from, making_failed, keeps_on, ends_failed, missing_status, there_status, stop_some, undamaged_failed, complete_failed, budget_failed, worn_failed, finished_failed, made_failed, budget_done}
+use Rattle.ak_top.proofs.Commands.{keeps_opened}
+use Rattle.ak_top.proofs.Stopping.{opened_by}
 use Rattle.ak_top.proofs.Turning.{all_done, all_failed, untouched_told, refusal_of, damage_of, line_idle}
 use Rattle.ak_top.proofs.top.akl.Goals as goal
 
@@ -16,6 +18,9 @@ returns-in-Ok-clause-told g c told view opens = told_done view _ _ (c.perform.en
 
 pub returns-in-Ok-clause-done : goal.returns-in-Ok-clause-done
 returns-in-Ok-clause-done g c told view opens serves is = (c.in-Ok.ensures.served told view opens serves).done
+
+pub returns-in-Ok-clause-stands : goal.returns-in-Ok-clause-stands
+returns-in-Ok-clause-stands g c told view opens serves = keeps_opened (λ o. tt) (c.in-Ok.ensures.stands told view opens serves)
 
 pub returns-in-Ok-clause-budget : goal.returns-in-Ok-clause-budget
 returns-in-Ok-clause-budget g c told view opens = budget_done _ refl _ view _ _ (λ serves. (c.in-Ok.ensures.served told view opens serves).done) (c.perform.ensures.idle told)
@@ -52,8 +57,9 @@ returns-in-Err-clause-done g c told view opens serves is = absurd (stop_some c.i
 
 pub returns-in-Err-clause-stands : goal.returns-in-Err-clause-stands
 returns-in-Err-clause-stands g c told view opens serves =
-    keeps_on view _ _ (g.H.Outside.state c.args.host.now) (g.H.Outside.state c.perform.new.host) (g.H.Outside.state c.fail.new.ports) (c.perform.ensures.quiet told view opens).later
-    (c.perform.ensures.stands told view opens serves) (c.fail.ensures.moments told)
+    keeps_opened (opened_by c.in-Err.stop c.fail.result c.fail.ensures.status)
+    (keeps_on view _ _ (g.H.Outside.state c.args.host.now) (g.H.Outside.state c.perform.new.host) (g.H.Outside.state c.fail.new.ports) (c.perform.ensures.quiet told view opens).later
+    (c.in-Err.ensures.stands told view opens serves) (c.fail.ensures.moments told))
 
 pub returns-in-Err-clause-last : goal.returns-in-Err-clause-last
 returns-in-Err-clause-last g c told view opens serves is = absurd (stop_some c.in-Err.stop c.fail.result c.fail.ensures.status is)

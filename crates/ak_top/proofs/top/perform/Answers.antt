@@ -1,4 +1,4 @@
-use Rattle.std.proofs.Common.{◌≡◌, map, string_bytes, inl, sym, subst, OnOk}
+use Rattle.std.proofs.Common.{◌≡◌, map, string_bytes, inl, refl, sym, subst, OnOk}
 use Rattle.std.proofs.lemmas.Result.{IfErr-weaker}
 use Rattle.ak_base.specs.declared.limits.Limits.{Limits}
 use Rattle.ak_host.specs.Files.{Files}
@@ -6,7 +6,7 @@ use Rattle.ak_host.specs.Moments.{DiskPasses, LeavesNow, mark_now, Passes}
 use Rattle.ak_node.specs.Opening.{IsFirst}
 use Rattle.ak_world.specs.Views.{View}
 use Rattle.ak_top.specs.Commands.{IsMaking, LeavesBefore}
-use Rattle.ak_top.specs.Ends.{IsEnd, IsRunStop, IsScratchStop, IsServing, IsServingOrThere, HasServed}
+use Rattle.ak_top.specs.Ends.{IsEnd, IsRunStop, IsScratchStop, IsServing, IsServingOrThere, HasServed, HasOpened}
 use Rattle.ak_top.specs.Kept.{KeepsFrom}
 use Rattle.ak_top.specs.Told.{IsQuiet}
 use Rattle.ak_top.proofs.Commands.{quiet_passes, keeps_weaker, keeps_starts, leaves_run, leaves_scratch}
@@ -102,7 +102,7 @@ returns-in-Ok-clause-stands g c told view opens serves =
     let none = are_none words c.in-Ok.job c.in-Ok.ensures.job c.in-Scratch.is in
     let old = g.H.Outside.state c.args.host.now in
     let keeps = keeps_weaker (c.scratch.ensures.stands told) (leaves_scratch words old none) in
-    subst (λ (v : View). KeepsFrom v (LeavesBefore words old) old (g.H.Outside.state c.scratch.new.host)) (sym (opens.scratch none)) keeps
+    subst (λ (v : View). KeepsFrom v (LeavesBefore words old) (HasOpened c.scratch.result) old (g.H.Outside.state c.scratch.new.host)) (sym (opens.scratch none)) keeps
 
 pub returns-in-Err-Usage-clause-no_store : goal.returns-in-Err-Usage-clause-no_store
 returns-in-Err-Usage-clause-no_store g c told run none = absurd (no_command (map string_bytes c.args.words.now) c.in-Err-Usage.field-0 c.in-Err-Usage.field-0-is c.in-Err-Usage.ensures.usage (run_command (map string_bytes c.args.words.now) run))
@@ -120,4 +120,4 @@ pub returns-in-Err-Usage-clause-making : goal.returns-in-Err-Usage-clause-making
 returns-in-Err-Usage-clause-making g c limits creates = absurd (no_command (map string_bytes c.args.words.now) c.in-Err-Usage.field-0 c.in-Err-Usage.field-0-is c.in-Err-Usage.ensures.usage (creates_command (map string_bytes c.args.words.now) limits creates))
 
 pub returns-clause-stands : goal.returns-clause-stands
-returns-clause-stands g c told view opens serves = keeps_starts view (map string_bytes c.args.words.now) (g.H.Outside.state c.args.host.now)
+returns-clause-stands g c told view opens serves = keeps_starts view (map string_bytes c.args.words.now) (g.H.Outside.state c.args.host.now) (λ o. absurd (o.no_memory refl))

@@ -7,7 +7,7 @@ use Rattle.ak_node.specs.Opening.{IsNodeOpenStop}
 use Rattle.ak_top.proofs.Commands.{quiet_passes}
 use Rattle.ak_top.proofs.Missing.{open_missing}
 use Rattle.ak_top.proofs.Serving.{holds_still, keeps_none, keeps_served, quiet_served, served_from}
-use Rattle.ak_top.proofs.Stopping.{open_run, run_stops, stops_serving}
+use Rattle.ak_top.proofs.Stopping.{open_failed, open_run, run_stops, stops_serving}
 use Rattle.ak_top.specs.Calls.{IsBudget}
 use Rattle.ak_top.specs.Turns.{IsRefusal, IsDamage}
 use Rattle.ak_top.proofs.Turning.{untouched_of, stop_handed, on_stop_weaker, serve_refuses_none, idle_not_some, turns_from}
@@ -31,7 +31,8 @@ returns-in_err-node-clause-stands g c told view sound stands =
     let old = g.H.Outside.state c.args.host.now in
     let new = g.H.Outside.state c.open.new.disk in
     let run = c.open.ensures.moments told in
-    keeps_none view old new run.later (holds_still old new (λ disk left. left) run)
+    keeps_none view old new (open_failed c.from_residual.result c.in_err-node.field-0.0 c.from_residual.ensures.1 (c.in_err-node.ensures.sound told sound))
+    run.later (holds_still old new (λ disk left. left) run)
 
 pub returns-clause-silent : goal.returns-clause-silent
 returns-clause-silent g c told = c.serve.ensures.silent told ∙ ap (λ (m : Mark). console_of m) (same_mark (c.open.ensures.moments told))

@@ -10,7 +10,7 @@ use Rattle.ak_top.specs.Ends.{IsServing, IsServingOrThere}
 use Rattle.ak_top.proofs.Commands.{quiet_passes}
 use Rattle.ak_top.proofs.Making.{free_none}
 use Rattle.ak_top.proofs.Serving.{keeps_none, keeps_served, quiet_served, served_from, making_still}
-use Rattle.ak_top.proofs.Stopping.{scratch_stops, stops_serving}
+use Rattle.ak_top.proofs.Stopping.{make_failed, scratch_stops, stops_serving}
 use Rattle.ak_top.specs.Calls.{IsBudget}
 use Rattle.ak_top.specs.Turns.{IsRefusal, IsDamage}
 use Rattle.ak_top.proofs.Turning.{stop_handed, on_stop_weaker, on_ok_all, serve_refuses_none, make_refused, make_undamaged, idle_not_some, turns_from}
@@ -24,7 +24,8 @@ returns-in_err-node-clause-stands g c told =
     let old = g.H.Outside.state c.args.host.now in
     let new = g.H.Outside.state c.make.new.disk in
     let run = c.make.ensures.passes told in
-    keeps_none (first_view scratch_limits) old new run.later
+    keeps_none (first_view scratch_limits) old new
+    (make_failed g.H.Outside.tells old new c.from_residual.result c.in_err-node.field-0.0 c.from_residual.ensures.1 c.in_err-node.ensures.err) run.later
     (making_still scratch_limits old new run (λ free. c.make.ensures.moments told (λ disk left. free_none disk (free disk left))))
 
 pub returns-clause-exists : goal.returns-clause-exists

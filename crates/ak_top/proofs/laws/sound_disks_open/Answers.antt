@@ -1,0 +1,5 @@
+use Rattle.ak_top.proofs.Across as lemma
+use Rattle.ak_top.proofs.laws.sound_disks_open.Goals as goal
+
+pub returns : goal.returns
+returns c = lemma.opens_run
