@@ -1,0 +1,4 @@
+pub mod OnePoint
+pub mod Steps
+pub mod Cases
+pub mod AtLevels

@@ -1,0 +1,15 @@
+pub mod Sorted
+pub mod Lines
+pub mod Joins
+pub mod Answers
+pub mod Feeds
+pub mod Ahead
+pub mod Pages
+pub mod Picks
+pub mod Coming
+pub mod Buckets
+pub mod ToCome
+pub mod Tracks
+pub mod Starts
+pub mod Orders
+pub mod Lodes

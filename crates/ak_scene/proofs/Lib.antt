@@ -1,0 +1,7 @@
+pub mod Powers
+pub mod InScene
+pub mod Stopped
+pub mod Spans
+pub mod Links
+pub mod Levels
+pub mod FromLaid

@@ -1,0 +1,10 @@
+//! What a query goes through: one series, its tree on the disk and what waits of it in memory.
+#![tactic(auto)]
+
+mod counting;
+mod laws;
+mod reading;
+
+pub use counting::made;
+pub use laws::planted_entries_fit;
+pub use reading::read_refs;

@@ -1,0 +1,3 @@
+pub mod Windows
+pub mod Stretches
+pub mod Costs
