@@ -4,7 +4,8 @@ ghost use Rattle.std.specs.List.{AllByRecursion};
 ghost use Rattle.ak_base.specs.declared.point.Point.{Point};
 ghost use Rattle.ak_cache.specs.Leaves.{KeepsReach};
 ghost use Rattle.ak_fold.specs.Folded.{AreUpTo, IsFolded};
-ghost use Rattle.ak_scene.specs.Scenes.{IsScene, IsUnspelled};
+ghost use Rattle.ak_levels.specs.Pending.{Lists};
+ghost use Rattle.ak_scene.specs.Scenes.{IsScene, IsReached, AreReached, IsUnspelled};
 ghost use Rattle.ak_forest.specs.Numbers.{end};
 ghost use Rattle.ak_forest.specs.Tree.{Child, Children, Family, spot};
 ghost use Rattle.ak_image.specs.Blocks.{seen_in, AreThere};
@@ -43,8 +44,10 @@ fn fold_leaf<D: Disk>(
     ensures keeps { KeepsReach reach.old reach.new }
     ensures cache { reach.new.cache.now ≡ reach.old.cache.now }
     ensures reads { OnlyReads D.tells (D.state reach.old.disk.now) (D.state reach.new.disk.now) }
-    ensures stops { IfErr result (IsQueryStop
-        (λ file block. D.tells → IsUnspelled reach.old.volumes.now (seen_in reach.old.volumes.now.volumes (D.state reach.old.disk.now).files) asked.series file block)
+    ensures stops { (count : ℕ) (v : Lists)
+        → (D.tells → IsReached reach.old.volumes.now (seen_in reach.old.volumes.now.volumes (D.state reach.old.disk.now).files) asked.series count v 0 number a.0)
+        → IfErr result (IsQueryStop
+        (λ file block. D.tells → IsUnspelled reach.old.volumes.now (seen_in reach.old.volumes.now.volumes (D.state reach.old.disk.now).files) asked.series count v file block)
         (D.state reach.old.disk.now) (D.state reach.new.disk.now)) }
     ensures up_to { IfOk result (AreUpTo (2016 * (number + 1))) }
     ensures folded { D.tells → (leaves : List Leaf)
@@ -76,8 +79,10 @@ fn fold_node<D: Disk>(
     ensures keeps { KeepsReach reach.old reach.new }
     ensures cache { reach.new.cache.now ≡ reach.old.cache.now }
     ensures reads { OnlyReads D.tells (D.state reach.old.disk.now) (D.state reach.new.disk.now) }
-    ensures stops { IfErr result (IsQueryStop
-        (λ file block. D.tells → IsUnspelled reach.old.volumes.now (seen_in reach.old.volumes.now.volumes (D.state reach.old.disk.now).files) asked.series file block)
+    ensures stops { (count : ℕ) (v : Lists)
+        → (D.tells → IsReached reach.old.volumes.now (seen_in reach.old.volumes.now.volumes (D.state reach.old.disk.now).files) asked.series count v level number a.0)
+        → IfErr result (IsQueryStop
+        (λ file block. D.tells → IsUnspelled reach.old.volumes.now (seen_in reach.old.volumes.now.volumes (D.state reach.old.disk.now).files) asked.series count v file block)
         (D.state reach.old.disk.now) (D.state reach.new.disk.now)) }
     ensures up_to { IfOk result (AreUpTo (2016 * end 32 level number)) }
     ensures folded { D.tells → (leaves : List Leaf)
@@ -111,8 +116,10 @@ fn fold_ref<D: Disk>(
     ensures keeps { KeepsReach reach.old reach.new }
     ensures cache { reach.new.cache.now ≡ reach.old.cache.now }
     ensures reads { OnlyReads D.tells (D.state reach.old.disk.now) (D.state reach.new.disk.now) }
-    ensures stops { IfErr result (IsQueryStop
-        (λ file block. D.tells → IsUnspelled reach.old.volumes.now (seen_in reach.old.volumes.now.volumes (D.state reach.old.disk.now).files) asked.series file block)
+    ensures stops { (count : ℕ) (v : Lists)
+        → (D.tells → IsReached reach.old.volumes.now (seen_in reach.old.volumes.now.volumes (D.state reach.old.disk.now).files) asked.series count v level number r.addr.0)
+        → IfErr result (IsQueryStop
+        (λ file block. D.tells → IsUnspelled reach.old.volumes.now (seen_in reach.old.volumes.now.volumes (D.state reach.old.disk.now).files) asked.series count v file block)
         (D.state reach.old.disk.now) (D.state reach.new.disk.now)) }
     ensures up_to { IfOk result (AreUpTo (2016 * end 32 level number)) }
     ensures folded { D.tells → (leaves : List Leaf)
@@ -159,8 +166,10 @@ pub fn fold_refs<D: Disk>(
     ensures keeps { KeepsReach reach.old reach.new }
     ensures cache { reach.new.cache.now ≡ reach.old.cache.now }
     ensures reads { OnlyReads D.tells (D.state reach.old.disk.now) (D.state reach.new.disk.now) }
-    ensures stops { IfErr result (IsQueryStop
-        (λ file block. D.tells → IsUnspelled reach.old.volumes.now (seen_in reach.old.volumes.now.volumes (D.state reach.old.disk.now).files) asked.series file block)
+    ensures stops { (count : ℕ) (v : Lists)
+        → (D.tells → AreReached reach.old.volumes.now (seen_in reach.old.volumes.now.volumes (D.state reach.old.disk.now).files) asked.series count v level first refs.now)
+        → IfErr result (IsQueryStop
+        (λ file block. D.tells → IsUnspelled reach.old.volumes.now (seen_in reach.old.volumes.now.volumes (D.state reach.old.disk.now).files) asked.series count v file block)
         (D.state reach.old.disk.now) (D.state reach.new.disk.now)) }
     ensures up_to { IfOk result (AreUpTo (2016 * ((first + length refs.now) * 32 ^ level))) }
     ensures folded { D.tells → (leaves : List Leaf)

@@ -39,7 +39,7 @@ pub fn fold<D: Disk>(
     ensures cache { reach.new.cache.now ≡ reach.old.cache.now }
     ensures reads { OnlyReads D.tells (D.state reach.old.disk.now) (D.state reach.new.disk.now) }
     ensures stops { IfErr result (IsQueryStop
-        (λ file block. D.tells → IsUnspelled reach.old.volumes.now (seen_in reach.old.volumes.now.volumes (D.state reach.old.disk.now).files) e.now.series file block)
+        (λ file block. D.tells → IsUnspelled reach.old.volumes.now (seen_in reach.old.volumes.now.volumes (D.state reach.old.disk.now).files) e.now.series e.now.leaves e.now.levels.now file block)
         (D.state reach.old.disk.now) (D.state reach.new.disk.now)) }
     ensures up_to { IfOk result (AreUpTo (2016 * (e.now.leaves + 1))) }
     ensures value { D.tells → (leaves : List Leaf) (written : List Point)

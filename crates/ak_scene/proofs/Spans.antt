@@ -2,12 +2,8 @@
 use Rattle.std.proofs.Common.{◌≡◌, ℕ, zero, suc, ◌+◌, ◌-◌, ◌*◌, ◌^◌, ◌≤◌, List, [], ◌∷◌, subst, arith}
 use Rattle.std.proofs.Math.Nat.{mul-le-mul_left}
 use Rattle.std.specs.List.{AllByRecursion}
-use Rattle.ak_base.specs.declared.point.Addr.{Addr}
-use Rattle.ak_scene.specs.Scenes.{SpellsNoNode}
-use Rattle.ak_cache.specs.Nodes.{SpellsNoInner}
 use Rattle.ak_forest.specs.Numbers.{end}
 use Rattle.ak_forest.proofs.Arith.{fan_pos, times_le, power_up, family_stop}
-use Rattle.ak_image.specs.Blocks.{Seen}
 use Rattle.ak_inner.specs.References.{IsRef, AreRefs}
 use Rattle.ak_inner.specs.declared.reference.Ref.{Ref}
 use Rattle.ak_levels.specs.Entries.{IsTally}
@@ -30,11 +26,6 @@ tallies_each level (r ∷ rs) each = (record { some = each.0.some; most = each.0
 
 pub tallies_of : (level other : ℕ) (rs : List Ref) → other ≡ level → AreRefs other rs → AllByRecursion (IsTally (level - 1)) rs
 tallies_of level other rs same are = tallies_each level rs (subst (λ (l : ℕ). AllByRecursion (IsRef l) rs) same are.each)
-
--- where no inner node is spelled none is
-pub spells_none : (seen : Seen) (a : Addr) (level series number : ℕ) → 1 ≤ level → SpellsNoInner (seen a.0) a level series number → SpellsNoNode seen a level series number
-spells_none seen a zero series number above none = absurd (omega (arith, above))
-spells_none seen a (suc k) series number above none = none
 
 -- the children of a node begin no earlier and end where it does
 pub children_begin : (level number n : ℕ) → 1 ≤ level → n ≤ 32 → number * 32 ^ level ≤ (suc number * 32 - n) * 32 ^ (level - 1)

@@ -6,5 +6,5 @@ mod laws;
 mod reading;
 
 pub use counting::made;
-pub use laws::planted_entries_fit;
+pub use laws::{planted_entries_fit, unspelled_nodes_are_damaged};
 pub use reading::read_refs;

@@ -9,7 +9,8 @@ ghost use Rattle.ak_image.specs.Nodes.{reference_of};
 ghost use Rattle.ak_image.specs.Trees.{total_of};
 ghost use Rattle.ak_levels.specs.Entries.{IsTally};
 ghost use Rattle.ak_repair.specs.Reads.{OnlyReads};
-ghost use Rattle.ak_scene.specs.Scenes.{IsScene, IsUnspelled};
+ghost use Rattle.ak_levels.specs.Pending.{Lists};
+ghost use Rattle.ak_scene.specs.Scenes.{IsScene, IsReached, AreReached, IsUnspelled};
 ghost use Rattle.ak_scene.specs.Stops.{IsQueryStop};
 ghost use Rattle.ak_volumes.specs.Ordinals.{IsLive};
 ghost use Rattle.ak_world.specs.Leaves.{Leaf};
@@ -41,9 +42,14 @@ pub fn read_refs<D: Disk>(
     ensures keeps { KeepsReach reach.old reach.new }
     ensures cache { reach.new.cache.now ≡ reach.old.cache.now }
     ensures reads { OnlyReads D.tells (D.state reach.old.disk.now) (D.state reach.new.disk.now) }
-    ensures stops { IfErr result (IsQueryStop
-        (λ file block. D.tells → IsUnspelled reach.old.volumes.now (seen_in reach.old.volumes.now.volumes (D.state reach.old.disk.now).files) series file block)
+    ensures stops { (count : ℕ) (v : Lists)
+        → (D.tells → IsReached reach.old.volumes.now (seen_in reach.old.volumes.now.volumes (D.state reach.old.disk.now).files) series count v level number a.0)
+        → IfErr result (IsQueryStop
+        (λ file block. D.tells → IsUnspelled reach.old.volumes.now (seen_in reach.old.volumes.now.volumes (D.state reach.old.disk.now).files) series count v file block)
         (D.state reach.old.disk.now) (D.state reach.new.disk.now)) }
+    ensures reached { (count : ℕ) (v : Lists) → D.tells
+        → IsReached reach.old.volumes.now (seen_in reach.old.volumes.now.volumes (D.state reach.old.disk.now).files) series count v level number a.0
+        → IfOk result (λ first. AreReached reach.old.volumes.now (seen_in reach.old.volumes.now.volumes (D.state reach.old.disk.now).files) series count v (level - 1) first node.new) }
     ensures one { D.tells → (D.state reach.new.disk.now).reads ≤ (D.state reach.old.disk.now).reads + 1 }
     ensures first { IfOk result (λ first. first ≡ suc number * 32 - length node.new) }
     ensures few { length node.new ≤ 32 }

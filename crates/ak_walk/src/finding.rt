@@ -1,8 +1,8 @@
 //! Nodes by their numbers.
-ghost use Rattle.std.specs.Prelude.{◌≡◌, ℕ, suc, ◌+◌, ◌-◌, ◌*◌, ◌/◌, ◌^◌, ◌<◌, ◌≤◌, List, length, IfOk, IfErr};
+ghost use Rattle.std.specs.Prelude.{◌≡◌, ℕ, suc, ◌+◌, ◌-◌, ◌*◌, ◌/◌, ◌^◌, ◌<◌, ◌≤◌, List, length, IfOk, IfErr, IfSome};
 ghost use Rattle.ak_base.specs.declared.point.Point.{Point};
 ghost use Rattle.ak_cache.specs.Leaves.{KeepsReach};
-ghost use Rattle.ak_scene.specs.Scenes.{IsFit, IsUnspelled};
+ghost use Rattle.ak_scene.specs.Scenes.{IsFit, IsReached, IsUnspelled};
 ghost use Rattle.ak_image.specs.Blocks.{seen_in, AreThere};
 ghost use Rattle.ak_levels.specs.Entries.{AreLawful};
 ghost use Rattle.ak_repair.specs.Reads.{OnlyReads};
@@ -39,8 +39,10 @@ pub fn find<D: Disk>(
     ensures cache { reach.new.cache.now ≡ reach.old.cache.now }
     ensures reads { OnlyReads D.tells (D.state reach.old.disk.now) (D.state reach.new.disk.now) }
     ensures stops { IfErr result (IsQueryStop
-        (λ file block. D.tells → IsUnspelled reach.old.volumes.now (seen_in reach.old.volumes.now.volumes (D.state reach.old.disk.now).files) e.now.series file block)
+        (λ file block. D.tells → IsUnspelled reach.old.volumes.now (seen_in reach.old.volumes.now.volumes (D.state reach.old.disk.now).files) e.now.series e.now.leaves e.now.levels.now file block)
         (D.state reach.old.disk.now) (D.state reach.new.disk.now)) }
+    ensures reached { D.tells → IfOk result (λ found. IfSome found (λ r.
+        IsReached reach.old.volumes.now (seen_in reach.old.volumes.now.volumes (D.state reach.old.disk.now).files) e.now.series e.now.leaves e.now.levels.now level number r.addr.0)) }
     ensures named { D.tells → (leaves : List Leaf) (written : List Point)
         → (fit : IsFit reach.old.volumes.now (seen_in reach.old.volumes.now.volumes (D.state reach.old.disk.now).files) e.now.series e.now.leaves e.now.levels.now leaves written)
         → IfOk result (IsNamed reach.old.volumes.now (seen_in reach.old.volumes.now.volumes (D.state reach.old.disk.now).files) e.now.series leaves fit.scene level number) }

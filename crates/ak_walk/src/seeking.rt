@@ -3,7 +3,8 @@ ghost use Rattle.std.specs.Prelude.{◌≡◌, ℕ, suc, ◌+◌, ◌-◌, ◌*�
 ghost use Rattle.std.specs.List.{AllByRecursion};
 ghost use Rattle.ak_base.specs.declared.point.Point.{Point};
 ghost use Rattle.ak_cache.specs.Leaves.{KeepsReach};
-ghost use Rattle.ak_scene.specs.Scenes.{IsFit, IsScene, IsUnspelled};
+ghost use Rattle.ak_levels.specs.Pending.{Lists};
+ghost use Rattle.ak_scene.specs.Scenes.{IsFit, IsScene, IsReached, AreReached, IsUnspelled};
 ghost use Rattle.ak_forest.specs.Numbers.{end};
 ghost use Rattle.ak_forest.specs.Tree.{Child, Children, spot};
 ghost use Rattle.ak_image.specs.Blocks.{seen_in, AreThere};
@@ -46,8 +47,10 @@ fn seek_node<D: Disk>(
     ensures keeps { KeepsReach reach.old reach.new }
     ensures cache { reach.new.cache.now ≡ reach.old.cache.now }
     ensures reads { OnlyReads D.tells (D.state reach.old.disk.now) (D.state reach.new.disk.now) }
-    ensures stops { IfErr result (IsQueryStop
-        (λ file block. D.tells → IsUnspelled reach.old.volumes.now (seen_in reach.old.volumes.now.volumes (D.state reach.old.disk.now).files) series file block)
+    ensures stops { (count : ℕ) (v : Lists)
+        → (D.tells → IsReached reach.old.volumes.now (seen_in reach.old.volumes.now.volumes (D.state reach.old.disk.now).files) series count v level number a.0)
+        → IfErr result (IsQueryStop
+        (λ file block. D.tells → IsUnspelled reach.old.volumes.now (seen_in reach.old.volumes.now.volumes (D.state reach.old.disk.now).files) series count v file block)
         (D.state reach.old.disk.now) (D.state reach.new.disk.now)) }
     ensures sought { D.tells → (leaves : List Leaf)
         → (scene : IsScene reach.old.volumes.now (seen_in reach.old.volumes.now.volumes (D.state reach.old.disk.now).files) series leaves)
@@ -79,8 +82,10 @@ fn seek_ref<D: Disk>(
     ensures keeps { KeepsReach reach.old reach.new }
     ensures cache { reach.new.cache.now ≡ reach.old.cache.now }
     ensures reads { OnlyReads D.tells (D.state reach.old.disk.now) (D.state reach.new.disk.now) }
-    ensures stops { IfErr result (IsQueryStop
-        (λ file block. D.tells → IsUnspelled reach.old.volumes.now (seen_in reach.old.volumes.now.volumes (D.state reach.old.disk.now).files) series file block)
+    ensures stops { (count : ℕ) (v : Lists)
+        → (D.tells → IsReached reach.old.volumes.now (seen_in reach.old.volumes.now.volumes (D.state reach.old.disk.now).files) series count v level number r.addr.0)
+        → IfErr result (IsQueryStop
+        (λ file block. D.tells → IsUnspelled reach.old.volumes.now (seen_in reach.old.volumes.now.volumes (D.state reach.old.disk.now).files) series count v file block)
         (D.state reach.old.disk.now) (D.state reach.new.disk.now)) }
     ensures sought { D.tells → (leaves : List Leaf)
         → (scene : IsScene reach.old.volumes.now (seen_in reach.old.volumes.now.volumes (D.state reach.old.disk.now).files) series leaves)
@@ -121,8 +126,10 @@ fn seek_refs<D: Disk>(
     ensures keeps { KeepsReach reach.old reach.new }
     ensures cache { reach.new.cache.now ≡ reach.old.cache.now }
     ensures reads { OnlyReads D.tells (D.state reach.old.disk.now) (D.state reach.new.disk.now) }
-    ensures stops { IfErr result (IsQueryStop
-        (λ file block. D.tells → IsUnspelled reach.old.volumes.now (seen_in reach.old.volumes.now.volumes (D.state reach.old.disk.now).files) series file block)
+    ensures stops { (count : ℕ) (v : Lists)
+        → (D.tells → AreReached reach.old.volumes.now (seen_in reach.old.volumes.now.volumes (D.state reach.old.disk.now).files) series count v level first refs.now)
+        → IfErr result (IsQueryStop
+        (λ file block. D.tells → IsUnspelled reach.old.volumes.now (seen_in reach.old.volumes.now.volumes (D.state reach.old.disk.now).files) series count v file block)
         (D.state reach.old.disk.now) (D.state reach.new.disk.now)) }
     ensures sought { D.tells → (leaves : List Leaf)
         → (scene : IsScene reach.old.volumes.now (seen_in reach.old.volumes.now.volumes (D.state reach.old.disk.now).files) series leaves)
@@ -152,7 +159,7 @@ pub fn seek<D: Disk>(reach: &mut Reach<D>, e: &Entry, x: u64) -> Result<u64, Sto
     ensures cache { reach.new.cache.now ≡ reach.old.cache.now }
     ensures reads { OnlyReads D.tells (D.state reach.old.disk.now) (D.state reach.new.disk.now) }
     ensures stops { IfErr result (IsQueryStop
-        (λ file block. D.tells → IsUnspelled reach.old.volumes.now (seen_in reach.old.volumes.now.volumes (D.state reach.old.disk.now).files) e.now.series file block)
+        (λ file block. D.tells → IsUnspelled reach.old.volumes.now (seen_in reach.old.volumes.now.volumes (D.state reach.old.disk.now).files) e.now.series e.now.leaves e.now.levels.now file block)
         (D.state reach.old.disk.now) (D.state reach.new.disk.now)) }
     ensures before { D.tells → (leaves : List Leaf) (written : List Point)
         → (fit : IsFit reach.old.volumes.now (seen_in reach.old.volumes.now.volumes (D.state reach.old.disk.now).files) e.now.series e.now.leaves e.now.levels.now leaves written)

@@ -208,7 +208,7 @@ impl Walk {
         ensures cache { reach.new.cache.now ≡ reach.old.cache.now }
         ensures reads { OnlyReads D.tells (D.state reach.old.disk.now) (D.state reach.new.disk.now) }
         ensures stops { IfErr result (IsQueryStop
-            (λ file block. D.tells → IsUnspelled reach.old.volumes.now (seen_in reach.old.volumes.now.volumes (D.state reach.old.disk.now).files) e.now.series file block)
+            (λ file block. D.tells → IsUnspelled reach.old.volumes.now (seen_in reach.old.volumes.now.volumes (D.state reach.old.disk.now).files) e.now.series e.now.leaves e.now.levels.now file block)
             (D.state reach.old.disk.now) (D.state reach.new.disk.now)) }
         ensures begun { OnOk result ((self.new.begun ≡ true) × (self.new.left ≤ e.now.leaves + 1)) }
         ensures same { (self.new.back ≡ self.old.back) × (self.new.window ≡ self.old.window) × (self.new.filter ≡ self.old.filter) }
@@ -253,7 +253,7 @@ fn fetch<D: Disk>(
     ensures cache { reach.new.cache.now ≡ reach.old.cache.now }
     ensures reads { OnlyReads D.tells (D.state reach.old.disk.now) (D.state reach.new.disk.now) }
     ensures stops { IfErr result (IsQueryStop
-        (λ file block. D.tells → IsUnspelled reach.old.volumes.now (seen_in reach.old.volumes.now.volumes (D.state reach.old.disk.now).files) e.now.series file block)
+        (λ file block. D.tells → IsUnspelled reach.old.volumes.now (seen_in reach.old.volumes.now.volumes (D.state reach.old.disk.now).files) e.now.series e.now.leaves e.now.levels.now file block)
         (D.state reach.old.disk.now) (D.state reach.new.disk.now)) }
     ensures dead { D.tells → (leaves : List Leaf) (written : List Point)
         → (fit : IsFit reach.old.volumes.now (seen_in reach.old.volumes.now.volumes (D.state reach.old.disk.now).files) e.now.series e.now.leaves e.now.levels.now leaves written)
@@ -323,7 +323,7 @@ impl Walk {
         ensures cache { reach.new.cache.now ≡ reach.old.cache.now }
         ensures reads { OnlyReads D.tells (D.state reach.old.disk.now) (D.state reach.new.disk.now) }
         ensures stops { IfErr result (IsQueryStop
-            (λ file block. D.tells → IsUnspelled reach.old.volumes.now (seen_in reach.old.volumes.now.volumes (D.state reach.old.disk.now).files) e.now.series file block)
+            (λ file block. D.tells → IsUnspelled reach.old.volumes.now (seen_in reach.old.volumes.now.volumes (D.state reach.old.disk.now).files) e.now.series e.now.leaves e.now.levels.now file block)
             (D.state reach.old.disk.now) (D.state reach.new.disk.now)) }
         ensures begun { (self.new.begun ≡ true) × (self.new.left ≤ e.now.leaves + 1) }
         ensures same { (self.new.back ≡ self.old.back) × (self.new.window ≡ self.old.window) × (self.new.filter ≡ self.old.filter) }
@@ -389,7 +389,7 @@ impl Walk {
         ensures cache { reach.new.cache.now ≡ reach.old.cache.now }
         ensures reads { OnlyReads D.tells (D.state reach.old.disk.now) (D.state reach.new.disk.now) }
         ensures stops { IfErr result (IsQueryStop
-            (λ file block. D.tells → IsUnspelled reach.old.volumes.now (seen_in reach.old.volumes.now.volumes (D.state reach.old.disk.now).files) e.now.series file block)
+            (λ file block. D.tells → IsUnspelled reach.old.volumes.now (seen_in reach.old.volumes.now.volumes (D.state reach.old.disk.now).files) e.now.series e.now.leaves e.now.levels.now file block)
             (D.state reach.old.disk.now) (D.state reach.new.disk.now)) }
         ensures begun { OnOk result ((self.new.begun ≡ true) × (self.new.left ≤ e.now.leaves + 1)) }
         ensures same { (self.new.back ≡ self.old.back) × (self.new.window ≡ self.old.window) × (self.new.filter ≡ self.old.filter) }
@@ -417,7 +417,7 @@ impl Walk {
         ensures cache { reach.new.cache.now ≡ reach.old.cache.now }
         ensures reads { OnlyReads D.tells (D.state reach.old.disk.now) (D.state reach.new.disk.now) }
         ensures stops { IfErr result (IsQueryStop
-            (λ file block. D.tells → IsUnspelled reach.old.volumes.now (seen_in reach.old.volumes.now.volumes (D.state reach.old.disk.now).files) e.now.series file block)
+            (λ file block. D.tells → IsUnspelled reach.old.volumes.now (seen_in reach.old.volumes.now.volumes (D.state reach.old.disk.now).files) e.now.series e.now.leaves e.now.levels.now file block)
             (D.state reach.old.disk.now) (D.state reach.new.disk.now)) }
         ensures begun { (self.new.begun ≡ true) × (self.new.left ≤ e.now.leaves + 1) }
         ensures same { self.new.back ≡ self.old.back }
@@ -454,7 +454,7 @@ impl Walk {
         ensures cache { reach.new.cache.now ≡ reach.old.cache.now }
         ensures reads { OnlyReads D.tells (D.state reach.old.disk.now) (D.state reach.new.disk.now) }
         ensures stops { IfErr result (IsQueryStop
-            (λ file block. D.tells → IsUnspelled reach.old.volumes.now (seen_in reach.old.volumes.now.volumes (D.state reach.old.disk.now).files) e.now.series file block)
+            (λ file block. D.tells → IsUnspelled reach.old.volumes.now (seen_in reach.old.volumes.now.volumes (D.state reach.old.disk.now).files) e.now.series e.now.leaves e.now.levels.now file block)
             (D.state reach.old.disk.now) (D.state reach.new.disk.now)) }
         ensures few { OnOk result (self.new.left ≤ e.now.leaves + 1) }
         ensures sound { D.tells → (leaves : List Leaf) (written : List Point)

@@ -25,6 +25,8 @@ use Rattle.ak_scene.proofs.Spans.{children_begin, children_end, number_fits}
 use Rattle.ak_fold.proofs.Steps.{node_done, ref_leaf, ref_node, row_none, row_on, row_stops}
 use Rattle.ak_inner.specs.declared.reference.Ref.{Ref}
 use Rattle.ak_levels.specs.Entries.{IsTally}
+use Rattle.ak_scene.proofs.Reaching.{reached_at, reached_moved, row_moved, stop_later, stops_later}
+use Rattle.ak_scene.specs.Scenes.{IsReached}
 use Rattle.ak_fold.proofs.folding.+nodes.Goals as goal
 
 pub fold_node-fold_refs-requires : goal.fold_node-fold_refs-requires
@@ -263,3 +265,52 @@ fold_refs-returns-clause-folded g t c told leaves scene children fits before is 
     subst (λ (i : ℕ). IsFolded c.args.asked.window c.args.asked.filter before (points_between leaves (c.args.first * 32 ^ c.args.level) ((c.args.first + i) * 32 ^ c.args.level))
     (suc c.args.level * borders c.args.asked.window low (points_between leaves) (c.args.first * 32 ^ c.args.level) ((c.args.first + i) * 32 ^ c.args.level)) old new (Ok c.loop-i.all)) n
     (c.loop-i.invariant.folded told leaves scene children fits before is)
+
+-- ---- Why it stops
+
+pub fold_node-returns-in_err-first-clause-stops : goal.fold_node-returns-in_err-first-clause-stops
+fold_node-returns-in_err-first-clause-stops g t c count v reached =
+    stop_from _ c.from_residual.result c.in_err-first.field-0.0 c.from_residual.ensures.1 (c.in_err-first.ensures.stops count v reached)
+
+pub fold_node-returns-clause-stops : goal.fold_node-returns-clause-stops
+fold_node-returns-clause-stops g t c count v reached =
+    let o = c.args.reach.now.volumes.now in
+    let p = c.read_refs.new.reach.volumes.now in
+    let old = g.D.Outside.state c.args.reach.now.disk.now in
+    let mid = g.D.Outside.state c.read_refs.new.reach.disk.now in
+    let new = g.D.Outside.state c.fold_refs.new.reach.disk.now in
+    let read = c.in_ok-first.ensures in
+    let volumes : p ≡ o = ap (λ v. v.now) read.keeps.volumes in
+    let seen : Seen = seen_in o.volumes old.files in
+    let other : Seen = seen_in p.volumes mid.files in
+    stops_later o p seen other c.args.asked.series count v old mid new c.fold_refs.result volumes (λ told. sym (seen_kept o p old mid volumes (read.reads.files told))) read.reads.later
+    (c.fold_refs.ensures.stops count v
+    (λ told. row_moved o p seen other c.args.asked.series count v (c.args.level - 1) c.in_ok-first.first c.in_ok-first.first c.read_refs.new.node c.refs.result.now
+    (sym volumes) (seen_kept o p old mid volumes (read.reads.files told)) refl (sym c.refs.ensures.refs) (read.reached count v told (reached told))))
+
+pub fold_ref-returns-then-level-eq0-clause-stops : goal.fold_ref-returns-then-level-eq0-clause-stops
+fold_ref-returns-then-level-eq0-clause-stops g t c count v reached =
+    let o = c.args.reach.now.volumes.now in
+    let old = g.D.Outside.state c.args.reach.now.disk.now in
+    let zero_is : c.args.level ≡ 0 = omega (arith, c.if-level-eq0.true) in
+    c.fold_leaf.ensures.stops count v
+    (λ told. subst (λ (l : ℕ). IsReached o (seen_in o.volumes old.files) c.args.asked.series count v l c.args.number c.args.r.addr.0) zero_is (reached told))
+
+pub fold_refs-returns-in_err-all-clause-stops : goal.fold_refs-returns-in_err-all-clause-stops
+fold_refs-returns-in_err-all-clause-stops g t c count v reached =
+    let o = c.args.reach.now.volumes.now in
+    let p = c.loop-i.reach.volumes.now in
+    let old = g.D.Outside.state c.args.reach.now.disk.now in
+    let mid = g.D.Outside.state c.loop-i.reach.disk.now in
+    let new = g.D.Outside.state c.fold_ref.new.reach.disk.now in
+    let so_far = c.loop-i.invariant in
+    let i = c.loop-i.i in
+    let volumes : p ≡ o = ap (λ v. v.now) so_far.keeps.volumes in
+    let seen : Seen = seen_in o.volumes old.files in
+    let other : Seen = seen_in p.volumes mid.files in
+    let below : i < length c.args.refs.now = omega (arith, c.loop-i-test.true) in
+    let there = c.in_err-all.ensures.stops count v
+    (λ told. reached_moved o p seen other c.args.asked.series count v c.args.level (c.args.first + i) _ (sym volumes) (seen_kept o p old mid volumes (so_far.reads.files told))
+    (reached_at o seen c.args.asked.series count v c.args.level c.args.first i c.args.refs.now _ below (reached told))) in
+    stop_from _ c.from_residual.result c.in_err-all.field-0.0 c.from_residual.ensures.1
+    (stop_later o p seen other c.args.asked.series count v old mid new c.in_err-all.field-0.0 volumes (λ told. sym (seen_kept o p old mid volumes (so_far.reads.files told))) so_far.reads.later there)

@@ -9,18 +9,28 @@ use Rattle.ak_scene.proofs.Stopped.{node_stop, only_disk, no_value}
 use Rattle.ak_scene.specs.Scenes.{IsUnspelled}
 use Rattle.ak_image.specs.Blocks.{seen_in}
 use Rattle.ak_repair.proofs.OnlyReading.{stop_from}
+use Rattle.ak_repair.proofs.ReadNodes.{none_leaf}
 use Rattle.ak_select.specs.Windows.{chosen, summed}
 use Rattle.ak_fold.proofs.folding.fold_leaf.Goals as goal
 
 pub returns-in_err-leaf-clause-stops : goal.returns-in_err-leaf-clause-stops
-returns-in_err-leaf-clause-stops g c =
+returns-in_err-leaf-clause-stops g c count v reached =
     let o = c.args.reach.now.volumes.now in
     let old = g.D.Outside.state c.args.reach.now.disk.now in
     let new = g.D.Outside.state c.leaf.new.self.disk.now in
     stop_from _ c.from_residual.result c.in_err-leaf.field-0.0 c.from_residual.ensures.1
-    (node_stop {P = λ file block. g.D.Outside.tells → IsUnspelled o (seen_in o.volumes old.files) c.args.asked.series file block}
+    (node_stop {P = λ file block. g.D.Outside.tells → IsUnspelled o (seen_in o.volumes old.files) c.args.asked.series count v file block}
     (λ block. SpellsNone block c.args.a c.args.asked.series c.args.number) o old new c.args.a c.in_err-leaf.field-0.0
-    (λ file block file_is block_is none told. record { at = c.args.a; level = 0; number = c.args.number; live = c.requires.live; file_is = file_is; block_is = block_is; none = none told })
+    (λ file block file_is block_is none told. record {
+      level = 0;
+      number = c.args.number;
+      at = c.args.a.0;
+      reached = reached told;
+      live = c.requires.live;
+      file_is = file_is;
+      block_is = block_is;
+      none = none_leaf (seen_in o.volumes old.files) c.args.a c.args.asked.series c.args.number (none told);
+    })
     c.in_err-leaf.ensures.err)
 
 pub returns-in_err-leaf-clause-folded : goal.returns-in_err-leaf-clause-folded

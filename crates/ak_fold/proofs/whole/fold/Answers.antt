@@ -22,6 +22,7 @@ use Rattle.ak_select.specs.Costs.{borders}
 use Rattle.ak_select.specs.Windows.{chosen, summed}
 use Rattle.ak_volumes.specs.Ordinals.{Ordinals}
 use Rattle.ak_world.specs.Views.{address_of}
+use Rattle.ak_scene.proofs.Reaching.{reached_waits, row_moved, stop_later}
 use Rattle.ak_fold.proofs.whole.fold.Goals as goal
 
 pub loop-below-init : goal.loop-below-init
@@ -207,3 +208,31 @@ returns-in-None-clause-few g c told open_is leaves written fit =
     let n = c.args.e.now.leaves in
     let e = n / 32 ^ (11 - c.loop-below.below) * 32 ^ (11 - c.loop-below.below) in
     omega (arith, (c.loop-below.invariant.folded told leaves written fit).few open_is, borders_most c.of.result (fit.scene.known.leaves - length leaves) (points_between leaves) 0 e)
+
+pub returns-in_err-all-clause-stops : goal.returns-in_err-all-clause-stops
+returns-in_err-all-clause-stops g c =
+    let o = c.args.reach.now.volumes.now in
+    let p = c.loop-below.reach.volumes.now in
+    let old = g.D.Outside.state c.args.reach.now.disk.now in
+    let mid = g.D.Outside.state c.loop-below.reach.disk.now in
+    let new = g.D.Outside.state c.fold_refs.new.reach.disk.now in
+    let so_far = c.loop-below.invariant in
+    let n = c.args.e.now.leaves in
+    let v = c.args.e.now.levels.now in
+    let series = c.args.e.now.series in
+    let k = 10 - c.loop-below.below in
+    let refs : List Ref = c.pending-refs.result.now in
+    let len = length refs in
+    let long : len ≡ length (pending_at v k) = ap (λ (rs : List Ref). length rs) c.pending-refs.ensures.pending in
+    let few : len ≤ digit 32 k n = omega (arith, long, c.requires.lawful.few k (omega arith)) in
+    let first = c.made.result - len in
+    let first_is : first ≡ made 32 k n - len = ap (λ (x : ℕ). x - len) c.made.ensures in
+    let ends : first + len ≡ made 32 k n = level_end n k len first few first_is in
+    let volumes : p ≡ o = ap (λ v. v.now) so_far.keeps.volumes in
+    let seen : Seen = seen_in o.volumes old.files in
+    let other : Seen = seen_in p.volumes mid.files in
+    let there = c.in_err-all.ensures.stops n v
+    (λ told. row_moved o p seen other series n v k first first refs refs (sym volumes) (seen_kept o p old mid volumes (so_far.reads.files told)) refl refl
+    (reached_waits o seen series n v k first refs (omega arith) c.pending-refs.ensures.pending first_is (omega (arith, ends)))) in
+    stop_from _ c.from_residual.result c.in_err-all.field-0.0 c.from_residual.ensures.1
+    (stop_later o p seen other series n v old mid new c.in_err-all.field-0.0 volumes (λ told. sym (seen_kept o p old mid volumes (so_far.reads.files told))) so_far.reads.later there)

@@ -19,6 +19,7 @@ use Rattle.ak_volumes.specs.Ordinals.{Ordinals}
 use Rattle.ak_walk.proofs.Early.{early_none, early_dead, early_ref, sought_leaf, early_on, sought_in, sought_moved, sought_some, sought_none, if_ok}
 use Rattle.ak_walk.specs.Places.{IsSought}
 use Rattle.ak_world.specs.Views.{address_of}
+use Rattle.ak_scene.proofs.Reaching.{reached_at, reached_moved, row_moved, stop_later, stops_later}
 use Rattle.ak_walk.proofs.seeking.+sought.Goals as goal
 
 pub seek_node-seek_refs-requires : goal.seek_node-seek_refs-requires
@@ -226,3 +227,44 @@ seek_refs-returns-clause-sought g t c told leaves scene children fits =
     let n : c.loop-i.i ≡ length c.args.refs.now = omega (arith, c.loop-i-test.false, c.loop-i.auto.i-end) in
     subst (λ (i : ℕ). AllByRecursion (λ (p : Point). p.ts < c.args.x) (points_between leaves (c.args.first * 32 ^ c.args.level) ((c.args.first + i) * 32 ^ c.args.level))) n
     (c.loop-i.invariant.sought told leaves scene children fits)
+
+-- ---- Why it stops
+
+pub seek_node-returns-in_err-first-clause-stops : goal.seek_node-returns-in_err-first-clause-stops
+seek_node-returns-in_err-first-clause-stops g t c count v reached =
+    stop_from _ c.from_residual.result c.in_err-first.field-0.0 c.from_residual.ensures.1 (c.in_err-first.ensures.stops count v reached)
+
+pub seek_node-returns-clause-stops : goal.seek_node-returns-clause-stops
+seek_node-returns-clause-stops g t c count v reached =
+    let o = c.args.reach.now.volumes.now in
+    let p = c.read_refs.new.reach.volumes.now in
+    let old = g.D.Outside.state c.args.reach.now.disk.now in
+    let mid = g.D.Outside.state c.read_refs.new.reach.disk.now in
+    let new = g.D.Outside.state c.seek_refs.new.reach.disk.now in
+    let read = c.in_ok-first.ensures in
+    let volumes : p ≡ o = ap (λ v. v.now) read.keeps.volumes in
+    let seen : Seen = seen_in o.volumes old.files in
+    let other : Seen = seen_in p.volumes mid.files in
+    stops_later o p seen other c.args.series count v old mid new c.seek_refs.result volumes (λ told. sym (seen_kept o p old mid volumes (read.reads.files told))) read.reads.later
+    (c.seek_refs.ensures.stops count v
+    (λ told. row_moved o p seen other c.args.series count v (c.args.level - 1) c.in_ok-first.first c.in_ok-first.first c.read_refs.new.node c.refs.result.now
+    (sym volumes) (seen_kept o p old mid volumes (read.reads.files told)) refl (sym c.refs.ensures.refs) (read.reached count v told (reached told))))
+
+pub seek_refs-returns-in_err-found-clause-stops : goal.seek_refs-returns-in_err-found-clause-stops
+seek_refs-returns-in_err-found-clause-stops g t c count v reached =
+    let o = c.args.reach.now.volumes.now in
+    let p = c.loop-i.reach.volumes.now in
+    let old = g.D.Outside.state c.args.reach.now.disk.now in
+    let mid = g.D.Outside.state c.loop-i.reach.disk.now in
+    let new = g.D.Outside.state c.seek_ref.new.reach.disk.now in
+    let so_far = c.loop-i.invariant in
+    let i = c.loop-i.i in
+    let volumes : p ≡ o = ap (λ v. v.now) so_far.keeps.volumes in
+    let seen : Seen = seen_in o.volumes old.files in
+    let other : Seen = seen_in p.volumes mid.files in
+    let below : i < length c.args.refs.now = omega (arith, c.loop-i-test.true) in
+    let there = c.in_err-found.ensures.stops count v
+    (λ told. reached_moved o p seen other c.args.series count v c.args.level (c.args.first + i) _ (sym volumes) (seen_kept o p old mid volumes (so_far.reads.files told))
+    (reached_at o seen c.args.series count v c.args.level c.args.first i c.args.refs.now _ below (reached told))) in
+    stop_from _ c.from_residual.result c.in_err-found.field-0.0 c.from_residual.ensures.1
+    (stop_later o p seen other c.args.series count v old mid new c.in_err-found.field-0.0 volumes (λ told. sym (seen_kept o p old mid volumes (so_far.reads.files told))) so_far.reads.later there)

@@ -18,6 +18,7 @@ use Rattle.ak_volumes.specs.Ordinals.{Ordinals}
 use Rattle.ak_walk.proofs.Early.{early_none, early_level, sought_moved}
 use Rattle.ak_walk.specs.Places.{IsSought}
 use Rattle.ak_world.specs.Views.{address_of}
+use Rattle.ak_scene.proofs.Reaching.{reached_waits, row_moved, stop_later}
 use Rattle.ak_walk.proofs.seeking.seek.Goals as goal
 
 pub loop-below-init : goal.loop-below-init
@@ -143,3 +144,31 @@ pub returns-clause-before : goal.returns-clause-before
 returns-clause-before g c told leaves written fit =
     let is : c.loop-below.below ≡ 11 = omega (arith, c.loop-below-test.false, c.loop-below.auto.below-end) in
     (omega arith, omega (arith, fit.count_is), subst (λ (e : ℕ). AllByRecursion (λ (p : Point). p.ts < c.args.x) (points_between leaves 0 e)) (last_level c.args.e.now.leaves c.loop-below.below is) (c.loop-below.invariant.sought told leaves written fit), λ below. absurd (omega (arith, below)))
+
+pub returns-in_err-found-clause-stops : goal.returns-in_err-found-clause-stops
+returns-in_err-found-clause-stops g c =
+    let o = c.args.reach.now.volumes.now in
+    let p = c.loop-below.reach.volumes.now in
+    let old = g.D.Outside.state c.args.reach.now.disk.now in
+    let mid = g.D.Outside.state c.loop-below.reach.disk.now in
+    let new = g.D.Outside.state c.seek_refs.new.reach.disk.now in
+    let so_far = c.loop-below.invariant in
+    let n = c.args.e.now.leaves in
+    let v = c.args.e.now.levels.now in
+    let series = c.args.e.now.series in
+    let k = 10 - c.loop-below.below in
+    let refs : List Ref = c.pending-refs.result.now in
+    let len = length refs in
+    let long : len ≡ length (pending_at v k) = ap (λ (rs : List Ref). length rs) c.pending-refs.ensures.pending in
+    let few : len ≤ digit 32 k n = omega (arith, long, c.requires.lawful.few k (omega arith)) in
+    let first = c.made.result - len in
+    let first_is : first ≡ made 32 k n - len = ap (λ (x : ℕ). x - len) c.made.ensures in
+    let ends : first + len ≡ made 32 k n = level_end n k len first few first_is in
+    let volumes : p ≡ o = ap (λ v. v.now) so_far.keeps.volumes in
+    let seen : Seen = seen_in o.volumes old.files in
+    let other : Seen = seen_in p.volumes mid.files in
+    let there = c.in_err-found.ensures.stops n v
+    (λ told. row_moved o p seen other series n v k first first refs refs (sym volumes) (seen_kept o p old mid volumes (so_far.reads.files told)) refl refl
+    (reached_waits o seen series n v k first refs (omega arith) c.pending-refs.ensures.pending first_is (omega (arith, ends)))) in
+    stop_from _ c.from_residual.result c.in_err-found.field-0.0 c.from_residual.ensures.1
+    (stop_later o p seen other series n v old mid new c.in_err-found.field-0.0 volumes (λ told. sym (seen_kept o p old mid volumes (so_far.reads.files told))) so_far.reads.later there)

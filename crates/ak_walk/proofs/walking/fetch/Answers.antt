@@ -1,11 +1,13 @@
-use Rattle.std.proofs.Common.{◌≡◌, ◌∙◌, suc, ◌-◌, ◌<◌, ◌≤◌, length, sym, ap, subst, arith}
+use Rattle.std.proofs.Common.{◌≡◌, ◌∙◌, suc, ◌-◌, ◌<◌, ◌≤◌, length, Option, sym, ap, subst, arith}
 use Rattle.ak_base.specs.declared.stop.Stop.{Stop}
 use Rattle.ak_base.specs.declared.stop.Stop.TheVariants.{Disk}
 use Rattle.ak_cache.specs.Leaves.{SpellsNone}
 use Rattle.ak_scene.proofs.Links.{not_both, leaf_spot, moved, seen_kept, live_node, dead_node}
 use Rattle.ak_scene.proofs.InScene.{leaf_points, leaf_spelled}
 use Rattle.ak_scene.proofs.Stopped.{leaf_stop, only_disk}
-use Rattle.ak_scene.specs.Scenes.{IsUnspelled}
+use Rattle.ak_scene.specs.Scenes.{IsReached, IsUnspelled}
+use Rattle.ak_repair.proofs.ReadNodes.{none_leaf}
+use Rattle.std.specs.Option.{IfSome}
 use Rattle.ak_forest.specs.Numbers.{end}
 use Rattle.ak_forest.proofs.Arith.{times_one}
 use Rattle.ak_image.specs.Blocks.{Seen, seen_in}
@@ -71,15 +73,16 @@ returns-in_err-leaf-clause-stops g c =
     let r : Ref = c.in-Some.r in
     let live : IsLive o r.addr.0 = subst (λ (v : Ordinals). IsLive v r.addr.0) volumes (c.live.ensures.0 c.if-not-live.false) in
     stop_from _ c.from_residual-in_err-leaf.result c.in_err-leaf.field-0.0 c.from_residual-in_err-leaf.ensures.1
-    (leaf_stop {P = λ file block. g.D.Outside.tells → IsUnspelled o (seen_in o.volumes old.files) series file block} p old mid (g.D.Outside.state c.leaf.new.self.disk.now) r.addr series number c.in_err-leaf.field-0.0 sought.reads
+    (leaf_stop {P = λ file block. g.D.Outside.tells → IsUnspelled o (seen_in o.volumes old.files) series c.args.e.now.leaves c.args.e.now.levels.now file block} p old mid (g.D.Outside.state c.leaf.new.self.disk.now) r.addr series number c.in_err-leaf.field-0.0 sought.reads
     (λ file block file_is block_is none told. record {
-      at = r.addr;
       level = 0;
       number = number;
+      at = r.addr.0;
+      reached = subst (λ (found : Option Ref). IfSome found (λ (x : Ref). IsReached o (seen_in o.volumes old.files) series c.args.e.now.leaves c.args.e.now.levels.now 0 number x.addr.0)) c.in-Some.is (sought.reached told);
       live = live;
       file_is = file_is ∙ ap (λ (v : Ordinals). file_of v (ordinal_of r.addr.0)) volumes;
       block_is = block_is;
-      none = subst (λ (v : Ordinals). SpellsNone (seen_in v.volumes old.files r.addr.0) r.addr series number) volumes (none told);
+      none = none_leaf (seen_in o.volumes old.files) r.addr series number (subst (λ (v : Ordinals). SpellsNone (seen_in v.volumes old.files r.addr.0) r.addr series number) volumes (none told));
     })
     c.in_err-leaf.ensures.err)
 
