@@ -23,9 +23,6 @@ dropped_all skip n left taken row all before now so_far is one =
     let none : IsTaken false row before now = subst (λ (b : Bool). IsTaken b row before now) is one in
     (so_far ∙ ap (drop n) none.0 ∙ drop_nothing n, none.1)
 
-pub dropped_done : (skip n : ℕ) (all now : List Line) → drop skip all ≡ drop n now → n ≡ 0 → IsDropped true skip n all now
-dropped_done skip n all now so_far is = (is, so_far ∙ ap (λ (k : ℕ). drop k now) is)
-
 -- ---- The page
 
 none_at_most : (keep : Option ℕ) → at_most {A = Line} keep [] ≡ []

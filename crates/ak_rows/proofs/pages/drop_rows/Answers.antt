@@ -3,7 +3,7 @@ use Rattle.ak_rows.specs.Starts.{lists}
 use Rattle.ak_rows.specs.Tracks.{AreAllReady, select_rows}
 use Rattle.ak_rows.proofs.AllTracks.{all_later_same, all_later_on}
 use Rattle.ak_rows.proofs.Moving.{moves_not, moves_on}
-use Rattle.ak_rows.proofs.Paging.{dropped_more, dropped_all, dropped_done}
+use Rattle.ak_rows.proofs.Paging.{dropped_more, dropped_all}
 use Rattle.ak_rows.proofs.Turning.{all_later_length, all_each_later, all_apart_later, had_later}
 use Rattle.ak_rows.proofs.pages.drop_rows.Goals as goal
 
