@@ -58,9 +58,9 @@ pub record RangeIs (d : Data) (r : Range) : Type 0 where
   pub to : ToIs (within (codes "range") (codes "to") d) r.to
   pub back : r.back ≡ is_back r.from r.to
 
--- the step of a group-aggregate; any where there is none
+-- the step of a group-aggregate, and 1 where there is none
 abbrev pub StepIs : Option Data → ℕ → Type 0
-StepIs None n = Unit {0}
+StepIs None n = n ≡ 1
 StepIs (Some d) n = IsStep d n
 
 abbrev pub step_in : Data → Option Data

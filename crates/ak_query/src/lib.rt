@@ -6,6 +6,7 @@ mod functions;
 mod joins;
 mod json;
 mod kinds;
+mod laws;
 mod pieces;
 mod query;
 mod read;
@@ -14,5 +15,6 @@ mod shapes;
 mod tests;
 mod times;
 
+pub use laws::{every_query, one_query};
 pub use query::{Func, Funcs, Kind, Query, QueryError};
 pub use read::read_query;

@@ -3,6 +3,8 @@ pub mod Numerals
 pub mod Readings
 pub mod Splits
 pub mod StepFacts
+pub mod Settled
+pub mod EveryTime
 pub mod Shapes
 pub mod Dates
 pub mod Examples
