@@ -1,11 +1,11 @@
 -- A fold over the levels of what waits, from the highest down.
 use Rattle.ak_scene.proofs.Levels.{level_begin, level_end, fit_gap}
-use Rattle.std.proofs.Common.{◌≡◌, ◌⊎◌, inl, inr, ◌∙◌, ℕ, suc, ◌+◌, ◌-◌, ◌*◌, ◌^◌, ◌≤◌, List, [], ◌∷◌, ◌++◌, length, Option, None, Result, Ok, refl, sym, ap, subst, arith, length-append}
+use Rattle.std.proofs.Common.{◌≡◌, ◌⊎◌, inl, inr, ◌∙◌, ℕ, suc, ◌+◌, ◌-◌, ◌*◌, ◌^◌, ◌≤◌, List, [], ◌++◌, length, Option, None, Result, Ok, sym, ap, subst, arith}
 use Rattle.std.proofs.Math.Nat.{mul-le-mul_right}
 use Rattle.std.specs.Result.{IfOk}
 use Rattle.ak_base.specs.declared.point.Point.{Point}
 use Rattle.ak_base.specs.declared.stop.Stop.{Stop}
-use Rattle.ak_scene.proofs.InScene.{stretches}
+use Rattle.ak_scene.proofs.InScene.{double_none, stretches}
 use Rattle.ak_fold.specs.Folded.{IsFolded}
 use Rattle.ak_scene.specs.Scenes.{IsFit}
 use Rattle.ak_forest.specs.Numbers.{made, digit}
@@ -25,10 +25,6 @@ use Rattle.ak_volumes.specs.Ordinals.{Ordinals}
 use Rattle.ak_world.specs.Leaves.{Leaf}
 use Rattle.ak_inner.specs.declared.reference.Ref.{Ref}
 use Rattle.ak_levels.specs.Pending.{Lists, pending_at}
-
-double_none : (ps : List Point) → ps ++ ps ≡ ps → ps ≡ []
-double_none [] e = refl
-double_none (p ∷ ps) e = absurd (omega (arith, ap (λ (qs : List Point). length qs) e, length-append ps (p ∷ ps)))
 
 module _ (low leaves : ℕ) (stretch : ℕ → ℕ → List Point) (are : AreStretches low leaves stretch) (w : Window) (f : Filter) where
   -- what is left out between two levels is dead

@@ -1,10 +1,11 @@
 -- What a fold comes to at one reference, at one node and at references in a row.
-use Rattle.std.proofs.Common.{◌≡◌, ◌∙◌, ℕ, suc, ◌+◌, ◌-◌, ◌*◌, ◌^◌, ◌<◌, ◌≤◌, List, [], ◌∷◌, ◌++◌, length, Option, Some, Result, Ok, refl, sym, ap, ap₂, subst, arith, suc-mul, append_assoc, length-append}
+use Rattle.std.proofs.Common.{◌≡◌, ◌∙◌, ℕ, suc, ◌+◌, ◌-◌, ◌*◌, ◌^◌, ◌<◌, ◌≤◌, List, [], ◌++◌, Option, Some, Result, Ok, sym, ap, ap₂, subst, arith, suc-mul, append_assoc}
 use Rattle.std.proofs.Math.Nat.{mul-le-mul_left}
 use Rattle.std.specs.Prelude.{⊤}
 use Rattle.std.specs.Result.{IfOk, IsErrAnd}
 use Rattle.ak_base.specs.declared.point.Point.{Point}
 use Rattle.ak_base.specs.declared.stop.Stop.{Stop}
+use Rattle.ak_scene.proofs.InScene.{double_none}
 use Rattle.ak_scene.proofs.Stopped.{no_value}
 use Rattle.ak_fold.specs.Folded.{IsFolded}
 use Rattle.ak_forest.specs.Numbers.{end}
@@ -55,10 +56,6 @@ module _ (low leaves : ℕ) (home : ℕ → ℕ) (stretch : ℕ → ℕ → List
         sound = tt;
         few = λ open_is. omega arith;
       }
-    where
-      double_none : (ps : List Point) → ps ++ ps ≡ ps → ps ≡ []
-      double_none [] e = refl
-      double_none (p ∷ ps) e = absurd (omega (arith, ap (λ (qs : List Point). length qs) e, length-append ps (p ∷ ps)))
 
   -- where it stops in the midst of them
   pub row_stops : (k c i n : ℕ) (before : List Point) (old new : HostState) (result : Result (Option Summary) Stop) → i ≤ n → IsErrAnd result (λ e. ⊤)

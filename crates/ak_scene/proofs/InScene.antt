@@ -1,5 +1,5 @@
 -- What is known of a series whose blocks are a chain of leaves and the tree over it.
-use Rattle.std.proofs.Common.{◌≡◌, inl, inr, ◌∙◌, ℕ, zero, suc, ◌+◌, ◌-◌, ◌<◌, ◌≤◌, Bool, true, false, List, [], ◌∷◌, ◌++◌, length, map, refl, sym, ap, subst, arith}
+use Rattle.std.proofs.Common.{◌≡◌, inl, inr, ◌∙◌, ℕ, zero, suc, ◌+◌, ◌-◌, ◌<◌, ◌≤◌, Bool, true, false, List, [], ◌∷◌, ◌++◌, length, map, refl, sym, ap, subst, arith, length-append}
 use Rattle.std.proofs.lemmas.Bool.Decides.{nat_tests}
 use Rattle.std.specs.Prelude.{nat_le, nat_lt, ◌&&◌, if◌then◌else◌}
 use Rattle.ak_base.specs.Points.{IsHistoryFrom, last_ts_from}
@@ -29,6 +29,11 @@ use Rattle.ak_volumes.specs.Ordinals.{Ordinals}
 use Rattle.ak_world.specs.Leaves.{Leaf, points_of}
 use Rattle.ak_world.specs.Valid.{AreNumbered}
 use Rattle.ak_world.specs.Views.{address_of}
+
+-- a list that is twice itself
+pub double_none : (ps : List Point) → ps ++ ps ≡ ps → ps ≡ []
+double_none [] e = refl
+double_none (p ∷ ps) e = absurd (omega (arith, ap (λ (qs : List Point). length qs) e, length-append ps (p ∷ ps)))
 
 -- ---- Histories of leaves
 

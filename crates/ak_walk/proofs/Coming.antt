@@ -7,7 +7,7 @@ use Rattle.std.specs.List.{AllByRecursion}
 use Rattle.ak_base.specs.Points.{IsHistory, IsHistoryFrom, last_ts_from}
 use Rattle.ak_base.specs.declared.point.Point.{Point}
 use Rattle.ak_base.proofs.Histories.{history_least}
-use Rattle.ak_scene.proofs.InScene.{between_history, all_between}
+use Rattle.ak_scene.proofs.InScene.{double_none, between_history, all_between}
 use Rattle.ak_scene.specs.Scenes.{IsFit}
 use Rattle.ak_scene.proofs.Links.{moved}
 use Rattle.ak_image.specs.Planted.{IsPlanted}
@@ -83,10 +83,6 @@ module _ (o : Ordinals) (seen : Seen) (series n : ℕ) (v : Lists) (leaves : Lis
 
   same_none : (a : ℕ) → points_between (with_open leaves n written) a a ≡ []
   same_none a = double_none (points_between (with_open leaves n written) a a) (all_joins a a a (omega arith) (omega arith))
-    where
-      double_none : (ps : List Point) → ps ++ ps ≡ ps → ps ≡ []
-      double_none [] e = refl
-      double_none (p ∷ ps) e = absurd (omega (arith, ap (λ (qs : List Point). length qs) e, length-append ps (p ∷ ps)))
 
   -- what comes before the first leaf that ends no earlier than the window begins isn't chosen
   pub chosen_from : (w : Window) (f : Filter) (m : ℕ) → m ≤ n → Early w.least (points_between leaves 0 m) → chosen w f (points_between (with_open leaves n written) 0 (n + 1)) ≡ chosen w f (points_between (with_open leaves n written) m (n + 1))

@@ -1,5 +1,5 @@
 -- Leaves that end before a time.
-use Rattle.std.proofs.Common.{◌≡◌, ◌⊎◌, inl, inr, ◌∙◌, ℕ, suc, ◌+◌, ◌-◌, ◌*◌, ◌^◌, ◌<◌, ◌≤◌, true, false, List, [], ◌∷◌, ◌++◌, length, Option, Some, None, Result, Ok, Err, refl, sym, ap, ap₂, subst, arith, length-append}
+use Rattle.std.proofs.Common.{◌≡◌, ◌⊎◌, inl, inr, ◌∙◌, ℕ, suc, ◌+◌, ◌-◌, ◌*◌, ◌^◌, ◌<◌, ◌≤◌, true, false, List, [], ◌∷◌, length, Option, Some, None, Result, Ok, Err, sym, ap, ap₂, subst, arith}
 use Rattle.std.proofs.lemmas.Bool.{cases_lt}
 use Rattle.std.specs.List.{AllByRecursion}
 use Rattle.std.specs.Option.{is_some}
@@ -8,7 +8,7 @@ use Rattle.ak_base.specs.declared.stop.Stop.{Stop}
 use Rattle.ak_base.specs.Points.{IsHistory}
 use Rattle.ak_base.specs.declared.point.Point.{Point}
 use Rattle.ak_scene.proofs.Levels.{all_append}
-use Rattle.ak_scene.proofs.InScene.{stretches}
+use Rattle.ak_scene.proofs.InScene.{double_none, stretches}
 use Rattle.ak_scene.proofs.Links.{moved, live_node}
 use Rattle.ak_scene.specs.Scenes.{IsScene}
 use Rattle.ak_forest.specs.Numbers.{end}
@@ -41,10 +41,6 @@ early_nothing x ps none = subst (Early x) (sym none) tt
 early_end : (x : ℕ) (ps : List Point) → IsHistory ps → (summary_of ps).end < x → Early x ps
 early_end x [] h before = tt
 early_end x (p ∷ ps) h before = every (λ q most. omega (arith, most, end_is p ps, before)) (p ∷ ps) (history_most 0 (p ∷ ps) h)
-
-double_none : (ps : List Point) → ps ++ ps ≡ ps → ps ≡ []
-double_none [] e = refl
-double_none (p ∷ ps) e = absurd (omega (arith, ap (λ (qs : List Point). length qs) e, length-append ps (p ∷ ps)))
 
 module _ (o : Ordinals) (seen : Seen) (series : ℕ) (leaves : List Leaf) (scene : IsScene o seen series leaves) (x : ℕ) where
   early_joined : (i m e : ℕ) → i ≤ m → m ≤ e → Early x (points_between leaves i m) → Early x (points_between leaves m e) → Early x (points_between leaves i e)

@@ -15,9 +15,9 @@ use Rattle.ak_world.specs.Leaves.{Leaf}
 use Rattle.ak_world.specs.Views.{address_of}
 
 -- The reference to a node of a level by its number; none only where it has no live leaf.
-abbrev pub IsNamed : (o : Ordinals) (seen : Seen) (series : ℕ) (leaves : List Leaf) → IsScene o seen series leaves → ℕ → ℕ → Option Ref → Type 0
-IsNamed o seen series leaves scene level number None = end 32 level number ≤ scene.known.leaves - length leaves
-IsNamed o seen series leaves scene level number (Some r) =
+abbrev pub IsRefTo : (o : Ordinals) (seen : Seen) (series : ℕ) (leaves : List Leaf) → IsScene o seen series leaves → ℕ → ℕ → Option Ref → Type 0
+IsRefTo o seen series leaves scene level number None = end 32 level number ≤ scene.known.leaves - length leaves
+IsRefTo o seen series leaves scene level number (Some r) =
     Child 32 o.lo (scene.known.leaves - length leaves) (address_of leaves) (total_of leaves) level number (reference_of r)
 
 -- The first leaf from one number on that ends no earlier than a time: it does, and those before it end earlier. Where there is none up to

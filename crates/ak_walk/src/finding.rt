@@ -7,7 +7,7 @@ ghost use Rattle.ak_image.specs.Blocks.{seen_in, AreThere};
 ghost use Rattle.ak_levels.specs.Entries.{AreLawful};
 ghost use Rattle.ak_repair.specs.Reads.{OnlyReads};
 ghost use Rattle.ak_scene.specs.Stops.{IsQueryStop};
-ghost use Rattle.ak_walk.specs.Places.{IsNamed};
+ghost use Rattle.ak_walk.specs.Places.{IsRefTo};
 ghost use Rattle.ak_world.specs.Leaves.{Leaf};
 
 use ak_base::Stop;
@@ -45,7 +45,7 @@ pub fn find<D: Disk>(
         IsReached reach.old.volumes.now (seen_in reach.old.volumes.now.volumes (D.state reach.old.disk.now).files) e.now.series e.now.leaves e.now.levels.now level number r.addr.0)) }
     ensures named { D.tells → (leaves : List Leaf) (written : List Point)
         → (fit : IsFit reach.old.volumes.now (seen_in reach.old.volumes.now.volumes (D.state reach.old.disk.now).files) e.now.series e.now.leaves e.now.levels.now leaves written)
-        → IfOk result (IsNamed reach.old.volumes.now (seen_in reach.old.volumes.now.volumes (D.state reach.old.disk.now).files) e.now.series leaves fit.scene level number) }
+        → IfOk result (IsRefTo reach.old.volumes.now (seen_in reach.old.volumes.now.volumes (D.state reach.old.disk.now).files) e.now.series leaves fit.scene level number) }
     ensures sound { D.tells → (leaves : List Leaf) (written : List Point)
         → IsFit reach.old.volumes.now (seen_in reach.old.volumes.now.volumes (D.state reach.old.disk.now).files) e.now.series e.now.leaves e.now.levels.now leaves written
         → IfErr result (λ stop. stop ≡ Stop.Disk) }

@@ -13,7 +13,7 @@ use Rattle.ak_levels.specs.Pending.{pending_at}
 use Rattle.ak_repair.proofs.OnlyReading.{stop_from}
 use Rattle.ak_volumes.specs.Ordinals.{Ordinals, IsLive}
 use Rattle.ak_walk.proofs.Named.{named_here, dead_before, end_above, child_below, missing_below, blank_ref}
-use Rattle.ak_walk.specs.Places.{IsNamed}
+use Rattle.ak_walk.specs.Places.{IsRefTo}
 use Rattle.ak_world.specs.Views.{address_of}
 use Rattle.std.specs.Option.{IfSome}
 use Rattle.ak_scene.proofs.Levels.{level_end}
@@ -104,8 +104,8 @@ returns-in-None-clause-named g t c told leaves written fit =
     let sought = c.in_ok-found.ensures in
     let volumes : p ≡ o = ap (λ v. v.now) sought.keeps.volumes in
     let same = seen_kept o p old mid volumes (sought.reads.files told) in
-    let named : IsNamed o seen c.args.e.now.series leaves fit.scene (k + 1) above c.in_ok-found.found = sought.named told leaves written fit in
-    let dead : end 32 (k + 1) above ≤ low = subst (IsNamed o seen c.args.e.now.series leaves fit.scene (k + 1) above) c.in-None.is named in
+    let named : IsRefTo o seen c.args.e.now.series leaves fit.scene (k + 1) above c.in_ok-found.found = sought.named told leaves written fit in
+    let dead : end 32 (k + 1) above ≤ low = subst (IsRefTo o seen c.args.e.now.series leaves fit.scene (k + 1) above) c.in-None.is named in
     omega (arith, end_above k number, subst (λ (l : ℕ). end 32 l above ≤ low) plus dead)
 
 pub returns-then-not-live-clause-named : goal.returns-then-not-live-clause-named
@@ -131,9 +131,9 @@ returns-then-not-live-clause-named g t c told leaves written fit =
     let sought = c.in_ok-found.ensures in
     let volumes : p ≡ o = ap (λ v. v.now) sought.keeps.volumes in
     let same = seen_kept o p old mid volumes (sought.reads.files told) in
-    let named : IsNamed o seen c.args.e.now.series leaves fit.scene (k + 1) above c.in_ok-found.found = sought.named told leaves written fit in
+    let named : IsRefTo o seen c.args.e.now.series leaves fit.scene (k + 1) above c.in_ok-found.found = sought.named told leaves written fit in
     let parent : Ref = c.in-Some.parent in
-    let child = subst (λ (l : ℕ). Child 32 o.lo low (address_of leaves) (total_of leaves) l above (reference_of parent)) plus (subst (IsNamed o seen c.args.e.now.series leaves fit.scene (k + 1) above) c.in-Some.is named) in
+    let child = subst (λ (l : ℕ). Child 32 o.lo low (address_of leaves) (total_of leaves) l above (reference_of parent)) plus (subst (IsRefTo o seen c.args.e.now.series leaves fit.scene (k + 1) above) c.in-Some.is named) in
     let parents : c.made-2.result ≡ made 32 (suc k) n = subst (λ (l : ℕ). c.made-2.result ≡ n / 32 ^ l) plus c.made-2.ensures in
     let few_above : above < made 32 (suc k) n = omega (arith, c.if-above-made.false, parents) in
     let fits : end 32 (suc k) above ≤ fit.scene.known.leaves = omega (arith, end_made 32 (suc k) above n (omega arith) few_above, fit.count_is) in
@@ -164,9 +164,9 @@ returns-in_err-begin-clause-sound g t c told leaves written fit =
     let sought = c.in_ok-found.ensures in
     let volumes : p ≡ o = ap (λ v. v.now) sought.keeps.volumes in
     let same = seen_kept o p old mid volumes (sought.reads.files told) in
-    let named : IsNamed o seen c.args.e.now.series leaves fit.scene (k + 1) above c.in_ok-found.found = sought.named told leaves written fit in
+    let named : IsRefTo o seen c.args.e.now.series leaves fit.scene (k + 1) above c.in_ok-found.found = sought.named told leaves written fit in
     let parent : Ref = c.in-Some.parent in
-    let child = subst (λ (l : ℕ). Child 32 o.lo low (address_of leaves) (total_of leaves) l above (reference_of parent)) plus (subst (IsNamed o seen c.args.e.now.series leaves fit.scene (k + 1) above) c.in-Some.is named) in
+    let child = subst (λ (l : ℕ). Child 32 o.lo low (address_of leaves) (total_of leaves) l above (reference_of parent)) plus (subst (IsRefTo o seen c.args.e.now.series leaves fit.scene (k + 1) above) c.in-Some.is named) in
     let parents : c.made-2.result ≡ made 32 (suc k) n = subst (λ (l : ℕ). c.made-2.result ≡ n / 32 ^ l) plus c.made-2.ensures in
     let few_above : above < made 32 (suc k) n = omega (arith, c.if-above-made.false, parents) in
     let fits : end 32 (suc k) above ≤ fit.scene.known.leaves = omega (arith, end_made 32 (suc k) above n (omega arith) few_above, fit.count_is) in
@@ -201,9 +201,9 @@ returns-then-number-begin-clause-named g t c told leaves written fit =
     let sought = c.in_ok-found.ensures in
     let volumes : p ≡ o = ap (λ v. v.now) sought.keeps.volumes in
     let same = seen_kept o p old mid volumes (sought.reads.files told) in
-    let named : IsNamed o seen c.args.e.now.series leaves fit.scene (k + 1) above c.in_ok-found.found = sought.named told leaves written fit in
+    let named : IsRefTo o seen c.args.e.now.series leaves fit.scene (k + 1) above c.in_ok-found.found = sought.named told leaves written fit in
     let parent : Ref = c.in-Some.parent in
-    let child = subst (λ (l : ℕ). Child 32 o.lo low (address_of leaves) (total_of leaves) l above (reference_of parent)) plus (subst (IsNamed o seen c.args.e.now.series leaves fit.scene (k + 1) above) c.in-Some.is named) in
+    let child = subst (λ (l : ℕ). Child 32 o.lo low (address_of leaves) (total_of leaves) l above (reference_of parent)) plus (subst (IsRefTo o seen c.args.e.now.series leaves fit.scene (k + 1) above) c.in-Some.is named) in
     let parents : c.made-2.result ≡ made 32 (suc k) n = subst (λ (l : ℕ). c.made-2.result ≡ n / 32 ^ l) plus c.made-2.ensures in
     let few_above : above < made 32 (suc k) n = omega (arith, c.if-above-made.false, parents) in
     let fits : end 32 (suc k) above ≤ fit.scene.known.leaves = omega (arith, end_made 32 (suc k) above n (omega arith) few_above, fit.count_is) in
@@ -242,9 +242,9 @@ returns-clause-named g t c told leaves written fit =
     let sought = c.in_ok-found.ensures in
     let volumes : p ≡ o = ap (λ v. v.now) sought.keeps.volumes in
     let same = seen_kept o p old mid volumes (sought.reads.files told) in
-    let named : IsNamed o seen c.args.e.now.series leaves fit.scene (k + 1) above c.in_ok-found.found = sought.named told leaves written fit in
+    let named : IsRefTo o seen c.args.e.now.series leaves fit.scene (k + 1) above c.in_ok-found.found = sought.named told leaves written fit in
     let parent : Ref = c.in-Some.parent in
-    let child = subst (λ (l : ℕ). Child 32 o.lo low (address_of leaves) (total_of leaves) l above (reference_of parent)) plus (subst (IsNamed o seen c.args.e.now.series leaves fit.scene (k + 1) above) c.in-Some.is named) in
+    let child = subst (λ (l : ℕ). Child 32 o.lo low (address_of leaves) (total_of leaves) l above (reference_of parent)) plus (subst (IsRefTo o seen c.args.e.now.series leaves fit.scene (k + 1) above) c.in-Some.is named) in
     let parents : c.made-2.result ≡ made 32 (suc k) n = subst (λ (l : ℕ). c.made-2.result ≡ n / 32 ^ l) plus c.made-2.ensures in
     let few_above : above < made 32 (suc k) n = omega (arith, c.if-above-made.false, parents) in
     let fits : end 32 (suc k) above ≤ fit.scene.known.leaves = omega (arith, end_made 32 (suc k) above n (omega arith) few_above, fit.count_is) in

@@ -14,7 +14,7 @@ use Rattle.ak_image.specs.Blocks.{Seen, seen_in}
 use Rattle.ak_inner.specs.declared.reference.Ref.{Ref}
 use Rattle.ak_repair.proofs.OnlyReading.{stop_from}
 use Rattle.ak_volumes.specs.Ordinals.{Ordinals, IsLive, ordinal_of, file_of}
-use Rattle.ak_walk.specs.Places.{IsNamed}
+use Rattle.ak_walk.specs.Places.{IsRefTo}
 use Rattle.ak_world.specs.Views.{address_of}
 use Rattle.ak_walk.proofs.walking.fetch.Goals as goal
 
@@ -35,8 +35,8 @@ returns-in-None-clause-dead g c told leaves written fit not =
     let seen : Seen = seen_in o.volumes old.files in
     let low = fit.scene.known.leaves - length leaves in
     let one : end 32 0 number ≡ suc number = times_one 32 (suc number) in
-    let named : IsNamed o seen series leaves fit.scene 0 number c.in_ok-found.found = sought.named told leaves written fit in
-    let dead : end 32 0 number ≤ low = subst (IsNamed o seen series leaves fit.scene 0 number) c.in-None.is named in
+    let named : IsRefTo o seen series leaves fit.scene 0 number c.in_ok-found.found = sought.named told leaves written fit in
+    let dead : end 32 0 number ≤ low = subst (IsRefTo o seen series leaves fit.scene 0 number) c.in-None.is named in
     omega (arith, one, dead)
 
 pub returns-then-not-live-clause-dead : goal.returns-then-not-live-clause-dead
@@ -52,9 +52,9 @@ returns-then-not-live-clause-dead g c told leaves written fit not =
     let seen : Seen = seen_in o.volumes old.files in
     let low = fit.scene.known.leaves - length leaves in
     let one : end 32 0 number ≡ suc number = times_one 32 (suc number) in
-    let named : IsNamed o seen series leaves fit.scene 0 number c.in_ok-found.found = sought.named told leaves written fit in
+    let named : IsRefTo o seen series leaves fit.scene 0 number c.in_ok-found.found = sought.named told leaves written fit in
     let r : Ref = c.in-Some.r in
-    let child = subst (IsNamed o seen series leaves fit.scene 0 number) c.in-Some.is named in
+    let child = subst (IsRefTo o seen series leaves fit.scene 0 number) c.in-Some.is named in
     let fits : end 32 0 number ≤ fit.scene.known.leaves = omega (arith, one, fit.count_is, c.requires.number) in
     let dead = dead_node o seen series leaves fit.scene 0 number r child fits
     (λ live. not_both c.live.result (c.live.ensures.1 (subst (λ (v : Ordinals). IsLive v r.addr.0) (sym volumes) live)) c.if-not-live.true) in
@@ -99,9 +99,9 @@ returns-in_err-leaf-clause-sound g c told leaves written fit =
     let seen : Seen = seen_in o.volumes old.files in
     let low = fit.scene.known.leaves - length leaves in
     let one : end 32 0 number ≡ suc number = times_one 32 (suc number) in
-    let named : IsNamed o seen series leaves fit.scene 0 number c.in_ok-found.found = sought.named told leaves written fit in
+    let named : IsRefTo o seen series leaves fit.scene 0 number c.in_ok-found.found = sought.named told leaves written fit in
     let r : Ref = c.in-Some.r in
-    let child = subst (IsNamed o seen series leaves fit.scene 0 number) c.in-Some.is named in
+    let child = subst (IsRefTo o seen series leaves fit.scene 0 number) c.in-Some.is named in
     let fits : end 32 0 number ≤ fit.scene.known.leaves = omega (arith, one, fit.count_is, c.requires.number) in
     let live : IsLive o r.addr.0 = subst (λ (v : Ordinals). IsLive v r.addr.0) volumes (c.live.ensures.0 c.if-not-live.false) in
     let alive : low < end 32 0 number = live_node o seen series leaves fit.scene 0 number r child live in
@@ -125,9 +125,9 @@ returns-clause-read g c told leaves written fit yes_it =
     let seen : Seen = seen_in o.volumes old.files in
     let low = fit.scene.known.leaves - length leaves in
     let one : end 32 0 number ≡ suc number = times_one 32 (suc number) in
-    let named : IsNamed o seen series leaves fit.scene 0 number c.in_ok-found.found = sought.named told leaves written fit in
+    let named : IsRefTo o seen series leaves fit.scene 0 number c.in_ok-found.found = sought.named told leaves written fit in
     let r : Ref = c.in-Some.r in
-    let child = subst (IsNamed o seen series leaves fit.scene 0 number) c.in-Some.is named in
+    let child = subst (IsRefTo o seen series leaves fit.scene 0 number) c.in-Some.is named in
     let fits : end 32 0 number ≤ fit.scene.known.leaves = omega (arith, one, fit.count_is, c.requires.number) in
     let live : IsLive o r.addr.0 = subst (λ (v : Ordinals). IsLive v r.addr.0) volumes (c.live.ensures.0 c.if-not-live.false) in
     let alive : low < end 32 0 number = live_node o seen series leaves fit.scene 0 number r child live in
