@@ -1,5 +1,6 @@
 -- How what is asked is answered: a call of the disk, and then at most one reply.
-use Rattle.std.proofs.Common.{◌≡◌, ◌⊎◌, inl, inr, ℕ, ℤ, false, List, [], Option, refl, sym, ◌∙◌, ap, subst}
+use Rattle.std.proofs.Common.{◌≡◌, ◌⊎◌, inl, inr, ℕ, ℤ, false, List, [], ◌++◌, length, drop, Option, refl, sym, ◌∙◌, ap, subst}
+use Rattle.std.proofs.Math.Seq.{drop-append_seam}
 use Rattle.ak_base.specs.declared.refusal.Refusal.{Refusal}
 use Rattle.ak_host.specs.Files.{Files}
 use Rattle.ak_host.specs.Marks.{Mark}
@@ -7,6 +8,7 @@ use Rattle.ak_host.specs.Moments.{HostState, LeavesNow, Passes, DiskPasses, Port
 use Rattle.ak_host.proofs.Passing.{same_mark, goes_on, disk_weaker}
 use Rattle.ak_run.specs.declared.asked.Asked.{Asked}
 use Rattle.ak_run.specs.declared.asked.Asked.TheVariants.{Refused, Points, Rows, Flush}
+use Rattle.ak_run.specs.Bulks.{head_room, IsBulkFrom}
 use Rattle.ak_run.specs.Contents.{after, after_asked}
 use Rattle.ak_run.specs.Replies.{refusal_reply, points_reply, reply_to, ok_reply, bulk_reply, rows_of}
 use Rattle.ak_run.proofs.Growing.{sound_after, sound_reply, stay}
@@ -75,3 +77,10 @@ flush_bytes port content sound taken = rw (sound_reply port content Flush sound)
 -- calls that only read leave the last view
 pub reads_leave : (content : Store) (keeper : Keeper) (old mid : HostState) → Holds content keeper old → DiskPasses (LeavesNow old) old mid → DiskPasses (LeavesView content content) old mid
 reads_leave content keeper old mid holds run = disk_weaker run (λ disk left. last_left content content disk (stay content) (left_last content keeper old holds disk left))
+
+-- rows that stand behind the room for their head are told as a bulk
+pub bulk_told : (port : ℕ) (content : Store) (metric room text reply told : List ℕ) (start : ℕ) → content.worn ≡ false → length room ≡ head_room → text ≡ room ++ rows_of content metric
+    → IsBulkFrom reply start (drop head_room text) → told ≡ drop start reply → (reply_to port content (Rows metric)).bytes ≡ told
+bulk_told port content metric room text reply told start sound long is bulk told_is =
+    let rows : drop head_room text ≡ rows_of content metric = ap (drop head_room) is ∙ ap (λ n. drop n (room ++ rows_of content metric)) (sym long) ∙ drop-append_seam room (rows_of content metric) in
+    rows_bytes port content metric (drop head_room text) sound rows ∙ sym (told_is ∙ bulk.is)

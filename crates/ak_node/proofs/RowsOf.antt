@@ -1,5 +1,5 @@
 -- The rows of leaves and of series.
-use Rattle.std.proofs.Common.{Bool, ◌≡◌, ◌∙◌, ℕ, zero, suc, ◌+◌, List, [], ◌∷◌, ◌++◌, take, true, false, sym, ap, ap₂, subst, append_assoc, append-nil, add-one}
+use Rattle.std.proofs.Common.{Bool, ◌≡◌, ◌∙◌, ℕ, zero, suc, ◌+◌, ◌≤◌, List, [], ◌∷◌, ◌++◌, length, take, true, false, sym, ap, ap₂, subst, append_assoc, append-nil, add-one, length-append, arith}
 use Rattle.std.specs.List.{flat_map}
 use Rattle.std.proofs.lemmas.Grind.{flat_map-append}
 use Rattle.std.proofs.lemmas.List.{flat_map_more}
@@ -15,6 +15,10 @@ use Rattle.ak_tree.specs.Standing.{Trees, Holds}
 use Rattle.ak_world.specs.Leaves.{Leaf, Series, points_of, leaves_from, kept_points}
 use Rattle.ak_world.specs.Steps.{written_in}
 use Rattle.ak_world.specs.Worlds.{World, limits_of}
+
+-- a text that more was appended to is no shorter
+pub no_shorter : (a b more text : List ℕ) → text ≡ b ++ more → length a ≤ length b → length a ≤ length text
+no_shorter a b more text is before = omega (arith, ap length is ∙ length-append b more, before)
 
 -- the rows of one leaf more
 pub rows_more : (f : Point → List ℕ) (leaves : List Leaf) (leaf : Leaf) (i : ℕ) (text old : List ℕ) → take (i + 1) leaves ≡ take i leaves ++ leaf ∷ []

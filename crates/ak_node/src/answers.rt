@@ -21,7 +21,7 @@ use crate::puts::put;
 use crate::rows::write_metric;
 use ak_base::{Bytes, Refusal, Stop, Text};
 use ak_host::Host;
-use ak_run::{Asked, write_bulk, write_refusal};
+use ak_run::{Asked, begin_bulk, end_bulk, write_refusal};
 use std::alloc::Global;
 
 /// Tells a port these bytes, where there are any.
@@ -124,11 +124,13 @@ fn rows<H: Host>(
         → Passes (InAnswer port content (Asked.Rows metric.now) (mark_now (H.state host.old)))
         (LeavesInAnswer port content (Asked.Rows metric.now) (mark_now (H.state host.old))) (H.state host.old) (H.state host.new) }
 {
-    let mut text = Bytes::new(alloc);
-    write_metric(alloc, host, keeper, metric, &mut text)?;
     let mut reply = Bytes::new(alloc);
-    match write_bulk(alloc, text.as_slice(), &mut reply) {
-        Ok(()) => tell(host, port, reply.as_slice()),
+    if begin_bulk(alloc, &mut reply).is_err() {
+        return Err(Stop::Memory);
+    }
+    write_metric(alloc, host, keeper, metric, &mut reply)?;
+    match end_bulk(alloc, &mut reply) {
+        Ok(start) => tell(host, port, &reply.as_slice()[start..]),
         Err(_) => Err(Stop::Memory),
     }
 }

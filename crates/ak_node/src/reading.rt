@@ -139,15 +139,13 @@ fn advance<H: Host>(
     ensures moments { H.tells → (begun : Begun) → ReadsOn begun keeper.old session.old (begun.stream ++ take at.old piece.now) (mark_now (H.state host.old)) (H.state host.old)
         → Passes (InPiece begun piece.now) (LeavesInPiece begun piece.now) (H.state host.old) (H.state host.new) }
 {
-    match known_put(keeper, &session.reader, piece, *at) {
-        Some(known) => {
-            session.reader.pass(known.length);
-            *at += known.length;
-            accept_known(alloc, host, keeper, known.series, known.point)?;
-            Ok(true)
-        }
-        None => read_on(alloc, host, keeper, session, piece, at),
+    if let Some(known) = known_put(keeper, &session.reader, piece, *at) {
+        session.reader.pass(known.length);
+        *at += known.length;
+        accept_known(alloc, host, keeper, known.series, known.point)?;
+        return Ok(true);
     }
+    read_on(alloc, host, keeper, session, piece, at)
 }
 
 /// Reads a piece, and answers its messages and its fault.

@@ -51,6 +51,7 @@ fn write_leaves<D: Disk>(
     ensures stops { IfErr result (IsReadStop
         (λ file block. D.tells → AreWalked (seen_in reach.old.volumes.now.volumes (D.state reach.old.disk.now).files) reach.old.volumes.now series known.now.leaves (rescue_at known.now.rescue 0) addresses.now → ⊥)
         (D.state reach.old.disk.now) (D.state reach.new.disk.now)) }
+    ensures longer { OnOk result (length text.old ≤ length text.new) }
     ensures rows { D.tells
         → (walked : AreWalked (seen_in reach.old.volumes.now.volumes (D.state reach.old.disk.now).files) reach.old.volumes.now series known.now.leaves (rescue_at known.now.rescue 0) addresses.now)
         → OnOk result (text.new ≡ text.old ++ flat_map (row_text scale known.now.name) (points_of walked.leaves)) }
@@ -82,6 +83,7 @@ fn write_closed<D: Disk>(
     ensures reads { OnlyReads D.tells (D.state disk.old) (D.state disk.new) }
     ensures stops { IfErr result (IsReadStop (λ file block. D.tells → IsBrokenIn keeper.old.forest.meta (D.state disk.old).files series file block)
         (D.state disk.old) (D.state disk.new)) }
+    ensures longer { OnOk result (length text.old ≤ length text.new) }
     ensures rows { D.tells → (known : SeriesMeta) → IsAt keeper.old.forest.meta.series series known → OnOk result ((leaves : List Leaf)
         × IsWholeIn keeper.old.forest.meta (D.state disk.old).files series leaves
         × (text.new ≡ text.old ++ flat_map (row_text keeper.old.forest.meta.limits.scale known.name) (points_of leaves))) }
@@ -114,6 +116,7 @@ fn write_open(
     text: &mut Bytes,
 ) -> Result<(), AllocError>
     requires known { series < length forest.now.meta.series }
+    ensures longer { OnOk result (length text.old ≤ length text.new) }
     ensures rows { (content : Store) (known : SeriesMeta) → Keeps content forest.now → IsAt forest.now.meta.series series known
         → OnOk result (text.new ≡ text.old ++ flat_map (row_text forest.now.meta.limits.scale known.name) (written_in content.series series)) }
 {
@@ -141,6 +144,7 @@ fn write_series<D: Disk>(
     ensures stops { IfErr result (IsReadStop (λ file block. D.tells → IsDamagedLeaf keeper.old.forest.meta file block (D.state disk.old).files)
         (D.state disk.old) (D.state disk.new)) }
     ensures sound { D.tells → (content : Store) → Holds content keeper.old (D.state disk.old) → IfErr result IsSoundStop }
+    ensures longer { OnOk result (length text.old ≤ length text.new) }
     ensures rows { D.tells → (content : Store) (s : Series) → Holds content keeper.old (D.state disk.old) → IsAt content.series series s
         → OnOk result (text.new ≡ text.old ++ flat_map (row_text (limits_of content).scale s.name) (kept_points content.ordinals.lo s)) }
 {
@@ -168,6 +172,7 @@ fn write_of<D: Disk>(
     ensures stops { IfErr result (IsReadStop (λ file block. D.tells → IsDamagedLeaf keeper.old.forest.meta file block (D.state disk.old).files)
         (D.state disk.old) (D.state disk.new)) }
     ensures sound { D.tells → (content : Store) → Holds content keeper.old (D.state disk.old) → IfErr result IsSoundStop }
+    ensures longer { OnOk result (length text.old ≤ length text.new) }
     ensures rows { D.tells → (content : Store) (s : Series) → Holds content keeper.old (D.state disk.old) → IsAt content.series series s
         → OnOk result (text.new ≡ text.old ++ series_rows (limits_of content).scale content.ordinals.lo metric.now s) }
 {
@@ -195,6 +200,7 @@ pub fn write_metric<D: Disk>(
     ensures not_worn { OnWorn result (λ stop. ⊥) }
     ensures sound { D.tells → (content : Store) → Holds content keeper.old (D.state disk.old) → IfErr result IsSoundStop }
     ensures ready { IsReady D.tells keeper.new (D.state disk.new) }
+    ensures longer { OnOk result (length text.old ≤ length text.new) }
     ensures rows { D.tells → (content : Store) → Holds content keeper.old (D.state disk.old)
         → OnOk result (text.new ≡ text.old ++ rows_of content metric.now) }
     ensures holds { D.tells → (content : Store) → Holds content keeper.old (D.state disk.old) → Holds content keeper.new (D.state disk.new) }

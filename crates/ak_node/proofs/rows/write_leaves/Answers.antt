@@ -10,7 +10,7 @@ use Rattle.ak_meta.specs.Contents.{rescue_at}
 use Rattle.ak_repair.specs.Walks.{AreWalked}
 use Rattle.ak_repair.proofs.OnlyReading.{more_reads, stop_from, leaf_stop, on_ok}
 use Rattle.ak_repair.proofs.Linked.{placed_in, number_in, placed_points, placed_spells, length_back}
-use Rattle.ak_node.proofs.RowsOf.{rows_more}
+use Rattle.ak_node.proofs.RowsOf.{no_shorter, rows_more}
 use Rattle.ak_run.specs.Replies.{row_text}
 use Rattle.ak_world.specs.Leaves.{Leaf, points_of}
 use Rattle.ak_node.proofs.rows.write_leaves.Goals as goal
@@ -46,6 +46,8 @@ loop-i-preserved g c =
     let place : back + suc i ≡ length c.args.addresses.now = omega (arith, c.loop-i-test.true) in
     let a : Addr = get_or c.args.addresses.now back (record { 0 = 0 }) in
     let volumes : c.loop-i.reach.volumes.now ≡ o = ap (λ v. v.now) so_far.keeps.volumes in
+    let added = flat_map (row_text c.args.scale c.as_bytes-name.result.now) c.points.result.now in
+    let wrote : c.write_rows.new.text ≡ c.loop-i.text ++ added = on_ok c.write_rows.result (sym c.is_err.ensures.value ∙ c.if-is_err.false) c.write_rows.ensures in
     record {
       keeps = record {
         disk = read.keeps.disk ∙ so_far.keeps.disk;
@@ -55,6 +57,7 @@ loop-i-preserved g c =
       };
       cache = read.cache ∙ so_far.cache;
       reads = more_reads so_far.reads (record { later = read.later; port_faults = read.port_faults; sizes = read.sizes; files = read.files; writes = read.writes; moments = read.moments });
+      longer = no_shorter c.args.text.now c.loop-i.text added c.write_rows.new.text wrote so_far.longer;
       rows = λ told walked.
           let f = row_text c.args.scale c.args.known.now.name in
           let p = placed_in walked i back (record { 0 = 0 }) place in
@@ -64,8 +67,6 @@ loop-i-preserved g c =
           subst (λ v. SpellsLeaf (seen_in v.volumes old.files a.0) c.in_ok-leaf.field-0 c.leaf.new.self.scratch.now) volumes there in
           let points : c.points.result.now ≡ p.leaf.points = c.points.ensures.points ∙ placed_points c.in_ok-leaf.field-0 c.leaf.new.self.scratch.now p here in
           let name : c.as_bytes-name.result.now ≡ c.args.known.now.name = c.as_bytes-name.ensures.value ∙ c.as_str.ensures.value in
-          let wrote : c.write_rows.new.text ≡ c.loop-i.text ++ flat_map (row_text c.args.scale c.as_bytes-name.result.now) c.points.result.now =
-          on_ok c.write_rows.result (sym c.is_err.ensures.value ∙ c.if-is_err.false) c.write_rows.ensures in
           wrote
           ∙ ap₂ (λ (n : List ℕ) (ps : List Point). c.loop-i.text ++ flat_map (row_text c.args.scale n) ps) name points
           ∙ rows_more f walked.leaves p.leaf i c.loop-i.text c.args.text.now p.more (so_far.rows told walked);

@@ -41,6 +41,7 @@ loop-series-preserved g c =
       forest = c.write_of.ensures.forest ∙ so_far.forest;
       names = c.write_of.ensures.names ∙ so_far.names;
       reads = more_reads so_far.reads c.write_of.ensures.reads;
+      longer = omega (arith, so_far.longer, c.in_ok-write_of.ensures.longer);
       rows = λ told content holds.
           let now = holds_still content c.args.keeper.now c.loop-series.keeper old mid so_far.forest so_far.reads told holds in
           let within : c.loop-series.series < length content.series = omega (arith, c.loop-series-test.true, c.count-series-end.ensures, as_many content f holds.keeps.content_is) in

@@ -1,4 +1,4 @@
-use Rattle.std.proofs.Common.{◌≡◌, ◌∙◌, ℕ, ◌++◌, List, get_or, sym, ap, ap₂, subst}
+use Rattle.std.proofs.Common.{◌≡◌, ◌∙◌, ℕ, ◌++◌, List, get_or, sym, ap, ap₂, subst, arith}
 use Rattle.std.proofs.lemmas.Result.{on_ok_weaker}
 use Rattle.std.specs.List.{flat_map}
 use Rattle.ak_base.specs.declared.point.Point.{Point}
@@ -7,10 +7,14 @@ use Rattle.ak_repair.proofs.Chained.{at_place, at_one}
 use Rattle.ak_repair.specs.Walks.{IsAt}
 use Rattle.ak_run.specs.Replies.{row_text}
 use Rattle.ak_world.specs.Steps.{written_in}
+use Rattle.ak_node.proofs.RowsOf.{no_shorter}
 use Rattle.ak_node.proofs.rows.write_open.Goals as goal
 
 pub returns-in-Some : goal.returns-in-Some
 returns-in-Some c = record {
+  longer =
+      on_ok_weaker c.write_rows.result (λ wrote. no_shorter c.args.text.now c.args.text.now (flat_map (row_text c.scale-scale.result c.as_bytes.result.now) c.points.result.now) c.write_rows.new.text wrote (omega arith))
+      c.write_rows.ensures;
   rows = λ content known keeps is.
       let all : List SeriesMeta = c.args.forest.now.meta.series in
       let s : SeriesMeta = c.index-series-series.result in
