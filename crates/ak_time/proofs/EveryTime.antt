@@ -69,6 +69,7 @@ every_time text = elim (both_parts text) [
   where
     both_parts : (text : List ℕ) → Decided (IsCivilTime text)
     both_parts text = both (civil_text_cases text) (shown_cases (parts_of text))
+
     whole_cases : (text : List ℕ) → Decided (IsWhole text)
     whole_cases text = numeral_cases _
 
@@ -90,21 +91,28 @@ unit_settled : (unit : List ℕ) → Settled (IsUnit unit)
 unit_settled unit = elim (same_text unit []) [
   | inl is ↦ (Some 1, λ n. search rules)
   | inr a ↦ elim (same_text unit (codes "ns")) [
-  | inl is ↦ (Some 1, λ n. search rules)
-  | inr b ↦ elim (same_text unit (codes "us")) [
-  | inl is ↦ (Some 1_000, λ n. search rules)
-  | inr c ↦ elim (same_text unit (codes "ms")) [
-  | inl is ↦ (Some 1_000_000, λ n. search rules)
-  | inr d ↦ elim (same_text unit (codes "s")) [
-  | inl is ↦ (Some 1_000_000_000, λ n. search rules)
-  | inr e ↦ elim (same_text unit (codes "m")) [
-  | inl is ↦ (Some 60_000_000_000, λ n. search rules)
-  | inr f ↦ elim (same_text unit (codes "h")) [
-  | inl is ↦ (Some 3_600_000_000_000, λ n. search rules)
-  | inr g ↦ elim (same_text unit (codes "d")) [
-  | inl is ↦ (Some 86_400_000_000_000, λ n. search rules)
-  | inr h ↦ (None, λ n. search rules)
-  ] ] ] ] ] ] ] ]
+    | inl is ↦ (Some 1, λ n. search rules)
+    | inr b ↦ elim (same_text unit (codes "us")) [
+      | inl is ↦ (Some 1_000, λ n. search rules)
+      | inr c ↦ elim (same_text unit (codes "ms")) [
+        | inl is ↦ (Some 1_000_000, λ n. search rules)
+        | inr d ↦ elim (same_text unit (codes "s")) [
+          | inl is ↦ (Some 1_000_000_000, λ n. search rules)
+          | inr e ↦ elim (same_text unit (codes "m")) [
+            | inl is ↦ (Some 60_000_000_000, λ n. search rules)
+            | inr f ↦ elim (same_text unit (codes "h")) [
+              | inl is ↦ (Some 3_600_000_000_000, λ n. search rules)
+              | inr g ↦ elim (same_text unit (codes "d")) [
+                | inl is ↦ (Some 86_400_000_000_000, λ n. search rules)
+                | inr h ↦ (None, λ n. search rules)
+              ]
+            ]
+          ]
+        ]
+      ]
+    ]
+  ]
+]
 
 abbrev IsStepOf : List ℕ → ℕ → Type 0
 IsStepOf text n = ReadsStep text n × (1 ≤ n) × (n < 2 ^ 64)
